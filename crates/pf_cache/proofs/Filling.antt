@@ -18,7 +18,7 @@ use Rattle.pf_manifold.specs.Touches.{Touch, touch_of, touches_between}
 use Rattle.pf_cache.specs.Manifolds.{points_of_pair}
 use Rattle.pf_cache.specs.Slots.{Slot, filled_slot, is_of_pair, no_slot, slot_at, slot_touches}
 
--- ---- points of one pair, and behind them those of later ones
+-- ---- points of one pair, and after them those of later ones
 
 -- a pair passes its own test
 pub own : (p : Pair) → ((p.a == p.a) && (p.b == p.b)) ≡ true

@@ -84,7 +84,7 @@ module _ {X V : Type 0} (ranked : X → ℕ) (value : X → V) where
       beyond : (m k : ℕ) → m ≤ k → (k ≡ m → ⊥) → suc m ≤ k
       beyond m k low apart = omega (arith, low, apart)
 
-  -- behind the last element there is none
+  -- after the last element there is none
   pub found_nowhere : (v : V) (xs : List X) (place n : ℕ) → length xs ≤ place → value_or v n (drop place xs) ≡ v
   found_nowhere v xs place n over = rw (drop_all place xs over) refl
 
@@ -100,7 +100,7 @@ module _ {X : Type 0} (ranked : X → ℕ) where
       let above = rising-weaken least (suc (ranked here)) (map ranked behind) (omega (arith, reached)) from.1 in
       rw split (All-cons (λ x. least ≤ ranked x) here behind reached (rising-all ranked least behind above))
 
-  -- behind the last element, all are
+  -- after the last element, all are
   pub none_left : (xs : List X) (place least : ℕ) → length xs ≤ place → All (λ x. least ≤ ranked x) (drop place xs)
   none_left xs place least over = rw (drop_all place xs over) (All-nil (λ x. least ≤ ranked x))
 

@@ -127,7 +127,7 @@ module _ (f : Slot → Slot) (t : Slot → Bool) (front others : List Slot) (lef
       ∙ sym (same_places t old front others [] (old_is ∙ ap (λ l. front ++ l) (sym (append-nil others))) (all_fail f t others left))
       ∙ ap (λ l. filter (λ k. t (slot_at old k)) (range_with_len 0 (length l))) (sym old_is)
 
-  -- a slot behind them
+  -- a slot after them
   module _ (s : Slot) (behind : List Slot) where
     pub slots_here : (slots : List Slot) → slots ≡ map f front ++ (others ++ s ∷ behind) → slots ≡ map f (front ++ others) ++ s ∷ behind
     slots_here slots are =

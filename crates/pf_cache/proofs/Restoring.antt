@@ -270,7 +270,7 @@ same_kept old place (k ∷ keys) same =
     ap₂ (λ x xs. x ∷ xs) (ap (λ p. record { key = k; impulses = p }) (All-head (SameFrom old place) k keys same))
     (same_kept old place keys (All-tail (SameFrom old place) k keys same))
 
--- the first contacts that have the first keys stay, and behind them come the next ones of the others
+-- the first contacts that have the first keys stay, and after them come the next ones of the others
 pub next_from : (old : List Contact) (keys : List Key) (r : ℕ) → AreKeys keys → r ≤ length old → r ≤ length keys
     → HaveKeys old keys r → take r old ++ contacts_of_keys (drop r old) (drop r keys) ≡ contacts_of_keys old keys
 unfolding contacts_of_keys

@@ -95,7 +95,7 @@ module _ (contacts : List Contact) (keys : List Key) (rising : IsRising 0 (map r
 pub rest_is : {X : Type 0} (xs : List X) (place : ℕ) → take (length xs - place) (drop place xs) ≡ drop place xs
 rest_is xs place = take_all (length xs - place) (drop place xs) (omega (arith, length-drop place xs))
 
--- a run that is added behind others: where look-ups go on, and what was made
+-- a run that is added after others: where look-ups go on, and what was made
 pub run_added : (contacts : List Contact) (keys : List Key) (i place r : ℕ) (front made after : List Contact)
     → IsRising 0 (map rank keys) → place ≤ length contacts → i ≤ length keys
     → r ≤ length (take (length contacts - place) (drop place contacts))

@@ -22,7 +22,7 @@ use Rattle.pf_cache.proofs.Unmoved.{Decides-placed}
 differs : (m k : ℕ) → k ≢ m → nat_eq m k ≡ false
 differs m k other = grind (arith, nat_tests)
 
--- a number is not among those that are left from place i on, if it is not the one there, nor among those behind
+-- a number is not among those that are left from place i on, if it is not the one there, nor among those after it
 not_left : (numbers : List ℕ) (i n k : ℕ) → i < length numbers → n ≡ get_or numbers i n → k ≢ n
     → has_body (drop (i + 1) numbers) k ≡ false → has_body (drop i numbers) k ≡ false
 not_left numbers i n k here n_is other behind =

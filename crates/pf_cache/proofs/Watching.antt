@@ -20,7 +20,7 @@ use Rattle.pf_cache.proofs.PlacedPoints.{enumerate-append}
 
 -- ---- the next live slot of some slots
 
--- what stands before it and behind it
+-- what stands before and after it
 pub record Next (watched : List Bool) (slots : List Slot) (place skipped : ℕ) (l : LiveSlot) (live : List LiveSlot) : Type 0 where
   pub before : List Slot
   pub slot : Slot

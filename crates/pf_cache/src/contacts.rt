@@ -57,10 +57,10 @@ fn impulses_of(contacts: &[Contact], start: usize, key: &Key) -> (Impulses, usiz
     ensures later { (n : ℕ) → rank key.now < n
         → impulses_at n (drop result.1 contacts.now) ≡ impulses_at n (drop start contacts.now) }
 {
-    let (found, behind) = find_from(contacts, start, key.rank());
+    let (found, after) = find_from(contacts, start, key.rank());
     match found {
-        Some(contact) => (contact.impulses, behind),
-        None => (Impulses::NONE, behind),
+        Some(contact) => (contact.impulses, after),
+        None => (Impulses::NONE, after),
     }
 }
 
@@ -142,8 +142,8 @@ fn add_next(list: &mut Vec<Contact>, old: &[Contact], keys: &[Key])
         done += run;
         if done < keys.len() {
             let key = keys[done];
-            let (impulses, behind) = impulses_of(old, place, &key);
-            place = behind;
+            let (impulses, after) = impulses_of(old, place, &key);
+            place = after;
             list.push_reserved(Contact { key, impulses });
             done += 1;
         }
@@ -213,13 +213,8 @@ impl Contacts {
         self.list.as_slice()
     }
 
-    /// Makes of these contacts those of the points, as Box2D-Lite's `Arbiter::Update`: a key of the
-    /// old contacts keeps its impulses, a new key has none, and a contact without a point is gone.
-    /// The points are in the order of their keys. `change` then undoes this. With `may_stay`, and
-    /// if all contacts have the keys of all points, they may stay in place (no clause says that
-    /// they do), and impulses that change have to be noted. Otherwise all contacts are made anew,
-    /// and `change` has those before. An error leaves the contacts as they are, and no change in
-    /// `change`.
+    /// As [`Contacts::set_keys`], with the keys of these points, which are in the order of their
+    /// keys.
     pub fn update(
         &mut self,
         touches: &[Touch],

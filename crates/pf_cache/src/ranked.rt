@@ -44,7 +44,7 @@ fn first_from<T: Ranked>(list: &[T], start: usize, least: usize) -> usize
     place
 }
 
-/// The element of rank `wanted`, if there is one, and the place behind it, or `place`. From `place`
+/// The element of rank `wanted`, if there is one, and the place after it, or `place`. From `place`
 /// on no rank is below it, so one look is enough. Look-ups of higher ranks find from the returned
 /// place what they find from `place`.
 #[tactic(auto, using(crate::proofs::RankedLists::found_here, crate::proofs::RankedLists::found_other, crate::proofs::RankedLists::found_nowhere, crate::proofs::RankedLists::passed))]

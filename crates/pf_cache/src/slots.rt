@@ -35,8 +35,8 @@ pub(crate) fn carried_slots(
     let mut slots = Vec::with_capacity(alloc, pairs.len())?;
     let mut place = 0;
     for pair in pairs {
-        let (found, behind) = find_from(old, place, rank_of(pair));
-        place = behind;
+        let (found, after) = find_from(old, place, rank_of(pair));
+        place = after;
         slots.push_reserved(Slot::carried(*pair, found));
     }
     Ok(slots)

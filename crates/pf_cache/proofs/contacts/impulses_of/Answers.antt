@@ -11,22 +11,22 @@ pub returns-in-Some-clause-impulses : goal.returns-in-Some-clause-impulses
 returns-in-Some-clause-impulses c =
     let left = drop c.args.start c.args.contacts.now in
     let element : Some c.in-Some.contact.now ≡ element_at (λ (x : Contact). rank x.key) (rank c.args.key.now) left =
-    ap option_copied (sym c.in-Some.is) ∙ c.find_from-behind.ensures.element
+    ap option_copied (sym c.in-Some.is) ∙ c.find_from-after.ensures.element
     ∙ ap (λ n. element_at (λ (x : Contact). rank x.key) n left) c.rank.ensures in
     ap (λ (x : Contact). x.impulses) c.contact.view_is ∙ sym (impulses_found _ left _ element)
 
 pub returns-in-Some-clause-later : goal.returns-in-Some-clause-later
 returns-in-Some-clause-later c = λ n high.
-    same_impulses n _ _ (c.find_from-behind.ensures.later n (subst (λ m. m < n) (sym c.rank.ensures) high))
+    same_impulses n _ _ (c.find_from-after.ensures.later n (subst (λ m. m < n) (sym c.rank.ensures) high))
 
 pub returns-in-None-clause-impulses : goal.returns-in-None-clause-impulses
 returns-in-None-clause-impulses c =
     let left = drop c.args.start c.args.contacts.now in
     let element : None ≡ element_at (λ (x : Contact). rank x.key) (rank c.args.key.now) left =
-    ap option_copied (sym c.in-None.is) ∙ c.find_from-behind.ensures.element
+    ap option_copied (sym c.in-None.is) ∙ c.find_from-after.ensures.element
     ∙ ap (λ n. element_at (λ (x : Contact). rank x.key) n left) c.rank.ensures in
     sym (impulses_found _ left _ element)
 
 pub returns-in-None-clause-later : goal.returns-in-None-clause-later
 returns-in-None-clause-later c = λ n high.
-    same_impulses n _ _ (c.find_from-behind.ensures.later n (subst (λ m. m < n) (sym c.rank.ensures) high))
+    same_impulses n _ _ (c.find_from-after.ensures.later n (subst (λ m. m < n) (sym c.rank.ensures) high))

@@ -13,7 +13,7 @@ carried-requires c =
     let p = c.pair-item.result in
     let of : IsPairOf MAX_BODIES p =
     subst (IsPairOf MAX_BODIES) (sym c.pair-item.is) (All-get_or (IsPairOf MAX_BODIES) c.args.pairs.now c.loop-pair.pair-index p c.loop-pair-test.true c.requires.pairs) in
-    subst (λ o. IfSome o (λ s. s.pair ≡ p)) (sym c.find_from-behind.ensures.element)
+    subst (λ o. IfSome o (λ s. s.pair ≡ p)) (sym c.find_from-after.ensures.element)
     (slot_of_pair p c.rank_of.result (drop c.loop-pair.place c.args.old.now) of c.rank_of.ensures
     (All-drop (λ (s : Slot). IsPairOf MAX_BODIES s.pair) c.loop-pair.place c.args.old.now c.requires.bodies))
 
@@ -25,12 +25,12 @@ loop-pair-preserved c =
     let i = c.loop-pair.pair-index in
     let place = c.loop-pair.place in
     record {
-      within = c.find_from-behind.ensures.within;
+      within = c.find_from-after.ensures.within;
       behind = behind_more old pairs i place p p c.loop-pair-test.true c.pair-item.is c.loop-pair.invariant.behind
-          c.rank_of.result c.rank_of.ensures c.find_from-behind.result.1 c.find_from-behind.ensures.later
+          c.rank_of.result c.rank_of.ensures c.find_from-after.result.1 c.find_from-after.ensures.later
           (pairs_rise pairs c.requires.ascending c.requires.pairs);
       made = made_more old pairs i place p p c.loop-pair-test.true c.pair-item.is c.loop-pair.invariant.behind
-          c.rank_of.result c.rank_of.ensures c.loop-pair.slots.items _ _ c.find_from-behind.ensures.element c.loop-pair.invariant.made
+          c.rank_of.result c.rank_of.ensures c.loop-pair.slots.items _ _ c.find_from-after.ensures.element c.loop-pair.invariant.made
           (c.push_reserved.ensures.items ∙ ap (λ s. c.loop-pair.slots.items ++ s ∷ []) c.carried.ensures);
       count = search rules;
       room = search rules;
