@@ -1,5 +1,5 @@
--- Live slots: those with a watched body. The others keep their contact points, so that a tick has to
--- bring only the points of live ones up to date.
+-- Live slots: those with a watched body. The others keep their contact points, so that a tick has
+-- to bring only the points of live ones up to date.
 use Rattle.std.specs.Prelude.{◌≡◌, ℕ, ◌+◌, Bool, true, false, List, [], ◌∷◌, All, length, get_or, if◌then◌else◌}
 use Rattle.pf_cache.specs.declared.live.LiveSlot.{LiveSlot}
 use Rattle.pf_cache.specs.Slots.{Slot, has_flagged_body, is_of_pair, slot_touches}

@@ -268,11 +268,11 @@ impl Contacts {
         Ok(())
     }
 
-    /// Keeps these contacts as they are, for a tick whose points have the keys of those before. With
-    /// `may_stay` they stay in place, and impulses that change have to be noted. Otherwise `change`
-    /// has a copy of all of them, as if they were made anew: where the impulses of most contacts
-    /// change, to note them one by one takes longer than to copy all. `change` then undoes what
-    /// changes later. An error leaves no change in `change`.
+    /// Keeps these contacts as they are, for a tick whose points have the keys of those before.
+    /// With `may_stay` they stay in place, and impulses that change have to be noted. Otherwise
+    /// `change` has a copy of all of them, as if they were made anew: where the impulses of most
+    /// contacts change, to note them one by one takes longer than to copy all. `change` then undoes
+    /// what changes later. An error leaves no change in `change`.
     #[inline(never)]
     pub fn keep(&mut self, may_stay: bool, change: &mut ContactsChange) -> Result<(), AllocError>
         ensures same { self.new ≡ self.old }

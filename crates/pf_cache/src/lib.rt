@@ -1,6 +1,6 @@
 //! What is kept from tick to tick: the accumulated impulses of each contact, by its key; the bodies
-//! as they stood; a slot for each candidate pair of the broad phase, with the pair's contact points;
-//! and the meter of the work done.
+//! as they stood; a slot for each candidate pair of the broad phase, with its contact points; and
+//! the meter of the work done.
 #![tactic(auto)]
 
 mod contact;

@@ -1,5 +1,5 @@
-//! The slots whose contact points a tick brings up to date: those of bodies that may have moved, and
-//! of some that moved not long ago. The others keep their points.
+//! The slots whose contact points a tick brings up to date: those of bodies that may have moved,
+//! and of some that moved not long ago. The others keep their points.
 
 ghost use Rattle.std.specs.Prelude.{◌≡◌, ◌<◌, ℕ, All, IfOk, IsTrue, false, get_or, length};
 ghost use Rattle.pf_shapes.specs.Pair.{IsPairOf};
@@ -45,8 +45,9 @@ impl Live {
         }
     }
 
-    /// Whether these serve a tick in which the bodies of `moved`, of so many, may have moved: all of
-    /// them are watched, and they are at least half as many as when the watched ones were chosen.
+    /// Whether these serve a tick in which the bodies of `moved`, of so many, may have moved: all
+    /// of them are watched, and they are at least half as many as when the watched ones were
+    /// chosen.
     fn serves(&self, count: usize, moved: &[usize]) -> bool
         requires { All (λ number. number < count) moved.now }
         ensures count { IsTrue result → length self.now.watched.items ≡ count }
@@ -107,8 +108,8 @@ fn moved_flags(
 }
 
 /// The bodies that are watched in a tick, and the slots that have one of them. There were `before`
-/// bodies in the last tick, and there are `count` now; those of `moved` may have moved. `kept` is of
-/// the last tick: it serves again where the slots are the `same`.
+/// bodies in the last tick, and there are `count` now; those of `moved` may have moved. `kept` is
+/// of the last tick: it serves again where the slots are the `same`.
 pub(crate) fn live_of(
     alloc: Global,
     kept: Live,

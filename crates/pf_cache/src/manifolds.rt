@@ -14,8 +14,8 @@ use crate::live::{Live, are_watched, live_of};
 use crate::placed_bodies::PlacedBodies;
 use crate::slot::Slot;
 use crate::slots::{
-    carried_slots, compute_at, fill_at, flagged_points_of, flagged_points_of_live, keys_of, pairs_at,
-    refresh_live,
+    carried_slots, compute_at, fill_at, flagged_points_of, flagged_points_of_live, keys_of,
+    pairs_at, refresh_live,
 };
 use pf_broad::BroadPhase;
 use pf_manifold::{Collider, Key, Touch};
@@ -104,8 +104,8 @@ struct Refreshed {
     same_keys: bool,
 }
 
-/// Gives the slots at these places the contact points of their pairs: by the collider where they are
-/// many. Returns whether all points are known to have the keys of those before.
+/// Gives the slots at these places the contact points of their pairs: by the collider where they
+/// are many. Returns whether all points are known to have the keys of those before.
 fn fill_by<C: Collider>(
     collider: &C,
     alloc: Global,

@@ -204,8 +204,8 @@ impl Slot {
         false
     }
 
-    /// Gives the slot these contact points. Returns whether they are known to have the keys of those
-    /// before.
+    /// Gives the slot these contact points. Returns whether they are known to have the keys of
+    /// those before.
     #[inline]
     fn set_points(&mut self, points: Manifold) -> bool
         ensures slot { self.new ≡ record self.old {

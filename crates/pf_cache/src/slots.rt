@@ -1,4 +1,5 @@
-//! The slots of a tick: which are carried over, which have to be computed, and their contact points.
+//! The slots of a tick: which are carried over, which have to be computed, and their contact
+//! points.
 
 ghost use Rattle.std.specs.Prelude.{◌≡◌, ◌≤◌, ◌<◌, ◌+◌, [], ℕ, All, IfOk, IsOk, IsTrue, drop, false, filter, get_or, length, map, if◌then◌else◌};
 ghost use Rattle.std.specs.List.{flat_map, prefix_len, range_with_len};
@@ -88,8 +89,8 @@ pub(crate) fn refresh_live(
     })
 }
 
-/// Computes the contact points of the slots at these places. Returns whether all points are known to
-/// have the keys of those before.
+/// Computes the contact points of the slots at these places. Returns whether all points are known
+/// to have the keys of those before.
 #[inline(never)]
 pub(crate) fn compute_at(slots: &mut [Slot], places: &[usize], shapes: &[KeptShape]) -> bool
     requires few { length shapes.now ≤ MAX_BODIES }
@@ -225,7 +226,8 @@ pub(crate) fn flagged_points_of(
     Ok(points)
 }
 
-/// As [`flagged_points_of`], where all bodies whose flags are set are watched: only live slots are looked at.
+/// As [`flagged_points_of`], where all bodies whose flags are set are watched: only live slots are
+/// looked at.
 #[inline(never)]
 pub(crate) fn flagged_points_of_live(
     alloc: Global,
