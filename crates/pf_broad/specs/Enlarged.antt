@@ -16,7 +16,8 @@ contains_range outer_low outer_high low high = int_le outer_low low && int_le hi
 unfoldable pub contains : Bounds → Bounds → Bool
 contains a b =
     (not a.is_static || b.is_static)
-    && (contains_range a.low.x a.high.x b.low.x b.high.x && contains_range a.low.y a.high.y b.low.y b.high.y)
+    && (contains_range a.low.x a.high.x b.low.x b.high.x
+    && contains_range a.low.y a.high.y b.low.y b.high.y)
 
 -- each body's enlarged bounds contain its bounds
 pub record AreEnlarged (enlarged bounds : List Bounds) : Type 0 where

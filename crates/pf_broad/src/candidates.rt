@@ -6,7 +6,7 @@ ghost use Rattle.pf_broad.specs.Pairs.{pairs};
 ghost use Rattle.pf_broad.specs.Partners.{has_body, AreInOrder};
 ghost use Rattle.pf_broad.specs.Enlarged.{has_one_of, pairs_without};
 
-use crate::broad_phase::add_pairs;
+use crate::all_pairs::add_pairs;
 use crate::partners::{add_later, add_overlapping};
 use pf_shapes::{Bounds, MAX_BODIES, Pair};
 use std::alloc::{AllocError, Global};

@@ -30,7 +30,7 @@ fn contains_range(outer_low: Fx, outer_high: Fx, low: Fx, high: Fx) -> bool
 }
 
 /// An eighth. Bounds are enlarged by this length on each side, and in the direction of the velocity
-/// by the way of this time, 8 ticks.
+/// by the distance that the body travels in 8 ticks, an eighth of a second.
 #[inline]
 fn eighth() -> Fx {
     Fx::from_raw(1 << 21).unwrap()

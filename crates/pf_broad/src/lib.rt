@@ -1,6 +1,8 @@
-//! The broad phase: the pairs of a scene's bodies that may touch, since their bounds overlap.
+//! The broad phase: the pairs of a scene's bodies that may touch, since their bounds overlap; and
+//! candidates that are kept from tick to tick, the pairs of bodies whose enlarged bounds overlap.
 #![tactic(auto)]
 
+mod all_pairs;
 mod bodies;
 mod broad_phase;
 mod candidates;
@@ -9,13 +11,12 @@ mod cells;
 mod enlarged;
 mod grid;
 mod hasher;
-mod kept;
 pub mod laws;
 mod partners;
 
+pub use all_pairs::pairs;
 pub use bodies::all_bounds;
-pub use broad_phase::pairs;
+pub use broad_phase::BroadPhase;
 pub use cell::{CELL_SIDE, Cell, MAX_CELLS};
 pub use grid::Grid;
-pub use kept::BroadPhase;
 pub use partners::may_touch;

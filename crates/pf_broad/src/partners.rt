@@ -1,4 +1,4 @@
-//! The bodies that one body may touch, found in the grid.
+//! The bodies that one body may touch, by the grid or by a test of each.
 
 ghost use Rattle.std.specs.Prelude.{◌≡◌, ℕ, ◌<◌, ◌≤◌, ◌&&◌, ◌||◌, ◌++◌, length, filter, All, OnOk};
 ghost use Rattle.pf_shapes.specs.Bounds.{IsOrdered, ranges_overlap};

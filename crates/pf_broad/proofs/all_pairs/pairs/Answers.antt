@@ -7,7 +7,7 @@ use Rattle.pf_shapes.specs.Pair.{IsAscending}
 use Rattle.pf_broad.proofs.Ascending.{ascending}
 use Rattle.pf_broad.proofs.Within.{pairs_within}
 use Rattle.pf_broad.proofs.Few.{few_bodies}
-use Rattle.pf_broad.proofs.broad_phase.pairs.Goals as goal
+use Rattle.pf_broad.proofs.all_pairs.pairs.Goals as goal
 
 pub returns-then-bodies-lt2-clause-pairs : goal.returns-then-bodies-lt2-clause-pairs
 returns-then-bodies-lt2-clause-pairs c =

@@ -2,7 +2,7 @@ use Rattle.std.proofs.Common.{◌≡◌, ◌∷◌, [], ℕ, List, eqb-true, len
 use Rattle.std.proofs.lemmas.Bool.Decides.{nat_tests}
 use Rattle.pf_broad.specs.Enlarged.{left_bodies}
 use Rattle.pf_broad.proofs.Leaving.{none_left}
-use Rattle.pf_broad.proofs.kept.BroadPhase.update.Goals as goal
+use Rattle.pf_broad.proofs.broad_phase.BroadPhase.update.Goals as goal
 
 pub returns-then-is_empty-clause-enlarged : goal.returns-then-is_empty-clause-enlarged
 returns-then-is_empty-clause-enlarged c =

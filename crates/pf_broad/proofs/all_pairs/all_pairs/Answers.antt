@@ -2,7 +2,7 @@ use Rattle.std.proofs.Common.{ℕ, List, ◌++◌, map, sym, ap, ◌∙◌}
 use Rattle.pf_shapes.specs.Pair.{Pair}
 use Rattle.pf_broad.specs.Pairs.{pair, pairs_of}
 use Rattle.pf_broad.proofs.Finding.{pairs-more}
-use Rattle.pf_broad.proofs.broad_phase.all_pairs.Goals as goal
+use Rattle.pf_broad.proofs.all_pairs.all_pairs.Goals as goal
 
 pub loop-i-preserved : goal.loop-i-preserved
 loop-i-preserved c =

@@ -2,7 +2,7 @@ use Rattle.std.proofs.Common.{All, List, ap, sym, subst, ◌∙◌}
 use Rattle.pf_shapes.specs.Bounds.{Bounds, IsOrdered}
 use Rattle.pf_broad.specs.Pairs.{pairs}
 use Rattle.pf_broad.proofs.Enlarging.{candidates_of, enlarged_bounds-IsOrdered}
-use Rattle.pf_broad.proofs.kept.BroadPhase.of.Goals as goal
+use Rattle.pf_broad.proofs.broad_phase.BroadPhase.of.Goals as goal
 
 pub of_bounds-requires-clause-ordered : goal.of_bounds-requires-clause-ordered
 of_bounds-requires-clause-ordered c =

@@ -2,7 +2,7 @@ use Rattle.std.proofs.Common.{sym, subst, ap, ◌∙◌, length}
 use Rattle.pf_shapes.specs.Pair.{IsAscending}
 use Rattle.pf_broad.proofs.Ascending.{ascending}
 use Rattle.pf_broad.proofs.Within.{pairs-IsPairOf}
-use Rattle.pf_broad.proofs.kept.BroadPhase.candidates.Goals as goal
+use Rattle.pf_broad.proofs.broad_phase.BroadPhase.candidates.Goals as goal
 
 pub returns-clause-ascending : goal.returns-clause-ascending
 returns-clause-ascending c = subst IsAscending (sym (c.as_slice.ensures.value ∙ c.self.invariant.pairs)) (ascending c.self.inside.enlarged.items)

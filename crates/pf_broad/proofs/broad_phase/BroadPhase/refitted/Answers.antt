@@ -8,8 +8,8 @@ use Rattle.pf_broad.proofs.Leaving.{in_order}
 use Rattle.pf_broad.proofs.Enlarging.{candidates_of}
 use Rattle.pf_broad.proofs.Searching.{others_same}
 use Rattle.pf_broad.proofs.Within.{pairs-IsPairOf}
-use Rattle.pf_broad.proofs.kept.BroadPhase.refitted.Goals.{After-deref-2}
-use Rattle.pf_broad.proofs.kept.BroadPhase.refitted.Goals as goal
+use Rattle.pf_broad.proofs.broad_phase.BroadPhase.refitted.Goals.{After-deref-2}
+use Rattle.pf_broad.proofs.broad_phase.BroadPhase.refitted.Goals as goal
 
 -- the new enlarged bounds
 new_enlarged : (c : After-deref-2) → (with_items c.self.inside.enlarged c.refit.new.enlarged).items ≡ c.refit.new.enlarged
