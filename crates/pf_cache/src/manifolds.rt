@@ -307,9 +307,9 @@ impl Manifolds {
     /// The points of a pair that is kept are reused if both bodies still have the shape, position
     /// and rotation that they had. The other pairs cannot reuse kept points: theirs are computed,
     /// and these pairs are counted. The collider computes them if they are many. Only bodies of
-    /// `moved` are compared with how they stood; where as many bodies are kept, all others must
-    /// stand as they did. If `moved` is empty, what is kept is returned as it is. An error drops
-    /// what is kept. Takes no memory where there are no bodies.
+    /// `moved` are compared with how they stood. Where as many bodies are kept, all others must
+    /// stand as they did, and if `moved` is empty, what is kept is returned as it is. An error
+    /// drops what is kept. Takes no memory where there are no bodies.
     ///
     /// No clause says that `same_keys` is set wherever all points have the keys of the kept ones.
     pub fn update<C: Collider>(
