@@ -5,10 +5,10 @@ use Rattle.std.proofs.lemmas.Bool.{true≢false}
 use Rattle.std.proofs.lemmas.List.{append-nil, get_or-set_other, get_or-set_same}
 use Rattle.std.specs.List.{range_with_len}
 use Rattle.pf_shapes.specs.Body.{BodyState}
-use Rattle.pf_islands.specs.Dealing.{slot_of}
+use Rattle.pf_islands.specs.Dealing.{island_place}
 use Rattle.pf_islands.specs.Rows.{is_awake_at}
 use Rattle.pf_islands.specs.Split.{AreWoken, Island, active_labels, is_active_label, no_island}
-use Rattle.pf_islands.proofs.Dealing.{HasPlace, dealt_same, first_part, made_more, placed_same, slot_more}
+use Rattle.pf_islands.proofs.Filled.{HasPlace, dealt_same, first_part, made_more, placed_same, island_place_more}
 use Rattle.pf_islands.proofs.Members.{range_more}
 
 -- one body more
@@ -24,46 +24,46 @@ numbers_more bodies k e is =
 -- ---- empty islands
 
 module _ (labels : List ℕ) (bodies : List BodyState) where
-  -- of the first k labels those of groups that are simulated have islands and slots
-  pub record AreEmptied (islands : List Island) (count : ℕ) (slots : List ℕ) (k : ℕ) : Type 0 where
+  -- of the first k labels those of groups that are simulated have islands, at the places that are noted
+  pub record AreEmptied (islands : List Island) (count : ℕ) (island_places : List ℕ) (k : ℕ) : Type 0 where
     pub made : take count islands
         ≡ map (λ (label : ℕ). no_island) (filter (is_active_label labels bodies) (range_with_len 0 k))
-    pub number : count ≡ slot_of labels bodies k
-    pub noted : (i : ℕ) → i < k → is_active_label labels bodies i ≡ true → get_or slots i 0 ≡ slot_of labels bodies i
+    pub number : count ≡ island_place labels bodies k
+    pub noted : (i : ℕ) → i < k → is_active_label labels bodies i ≡ true → get_or island_places i 0 ≡ island_place labels bodies i
 
-  pub none_emptied : (islands : List Island) (slots : List ℕ) → AreEmptied islands 0 slots 0
-  none_emptied islands slots = record {
+  pub none_emptied : (islands : List Island) (island_places : List ℕ) → AreEmptied islands 0 island_places 0
+  none_emptied islands island_places = record {
     made = refl;
     number = refl;
     noted = λ i below. absurd (omega (arith, below));
   }
 
   -- the label of a group that is simulated
-  pub emptied_more : (islands after : List Island) (count : ℕ) (slots : List ℕ) (k : ℕ) → k < length slots
+  pub emptied_more : (islands after : List Island) (count : ℕ) (island_places : List ℕ) (k : ℕ) → k < length island_places
       → is_active_label labels bodies k ≡ true → take (count + 1) after ≡ take count islands ++ no_island ∷ []
-      → AreEmptied islands count slots k → AreEmptied after (count + 1) (set slots k count) (k + 1)
-  emptied_more islands after count slots k within active cleared before =
-      let more = slot_more labels bodies k true active in
+      → AreEmptied islands count island_places k → AreEmptied after (count + 1) (set island_places k count) (k + 1)
+  emptied_more islands after count island_places k within active cleared before =
+      let more = island_place_more labels bodies k true active in
       let number = before.number in
       record {
         made = cleared ∙ ap (λ xs. xs ++ no_island ∷ []) before.made ∙ sym (made_more labels bodies k true active);
         number = omega (arith, number, more);
         noted = below_more
-            (λ i. is_active_label labels bodies i ≡ true → get_or (set slots k count) i 0 ≡ slot_of labels bodies i) k
-            (λ i below own. get_or-set_other slots k i count 0 (λ same. omega (arith, same, below)) ∙ before.noted i below own)
-            (λ own. get_or-set_same slots k count 0 within ∙ before.number);
+            (λ i. is_active_label labels bodies i ≡ true → get_or (set island_places k count) i 0 ≡ island_place labels bodies i) k
+            (λ i below own. get_or-set_other island_places k i count 0 (λ same. omega (arith, same, below)) ∙ before.noted i below own)
+            (λ own. get_or-set_same island_places k count 0 within ∙ before.number);
       }
 
   -- another label
-  pub emptied_same : (islands : List Island) (count : ℕ) (slots : List ℕ) (k : ℕ)
-      → is_active_label labels bodies k ≡ false → AreEmptied islands count slots k → AreEmptied islands count slots (k + 1)
-  emptied_same islands count slots k other before =
-      let more = slot_more labels bodies k false other in
+  pub emptied_same : (islands : List Island) (count : ℕ) (island_places : List ℕ) (k : ℕ)
+      → is_active_label labels bodies k ≡ false → AreEmptied islands count island_places k → AreEmptied islands count island_places (k + 1)
+  emptied_same islands count island_places k other before =
+      let more = island_place_more labels bodies k false other in
       let number = before.number in
       record {
         made = before.made ∙ sym (append-nil _) ∙ sym (made_more labels bodies k false other);
         number = omega (arith, number, more);
-        noted = below_more (λ i. is_active_label labels bodies i ≡ true → get_or slots i 0 ≡ slot_of labels bodies i) k
+        noted = below_more (λ i. is_active_label labels bodies i ≡ true → get_or island_places i 0 ≡ island_place labels bodies i) k
             before.noted (λ own. absurd (true≢false (sym own ∙ other)));
       }
 

@@ -14,7 +14,7 @@ use Rattle.pf_manifold.specs.Key.{AreTouches, IsRising}
 use Rattle.pf_manifold.specs.Touches.{IsTouchOf, Touch}
 use Rattle.pf_cache.specs.Contact.{Contact}
 use Rattle.pf_rows.specs.Row.{AreRows, Row}
-use Rattle.pf_islands.specs.Dealing.{group_of_row, slot_of}
+use Rattle.pf_islands.specs.Dealing.{group_of_row, island_place}
 use Rattle.pf_islands.specs.Group.{group, groups}
 use Rattle.pf_islands.specs.Island.{group_members, rows_among, states_of, touches_one}
 use Rattle.pf_islands.specs.Laws.{HasBody, HasRow, active_bodies, islands_of, rows_of}
@@ -24,7 +24,7 @@ use Rattle.pf_islands.specs.Sleep.{woken_bodies}
 use Rattle.pf_islands.specs.Split.{AreWoken, IsActiveRow, Island, active_labels, is_active_label, island_of}
 use Rattle.pf_islands.proofs.ActiveRows.{map_where, rows_in_order}
 use Rattle.pf_islands.proofs.Chains.{one_name, reaches_one}
-use Rattle.pf_islands.proofs.Dealing.{group_active, name_at, touches_group}
+use Rattle.pf_islands.proofs.Filled.{group_active, name_at, touches_group}
 use Rattle.pf_islands.proofs.Elements.{all_at, mapped}
 use Rattle.pf_cache.proofs.ChosenNumbers.{chosen_pass, range_within}
 use Rattle.pf_islands.proofs.Members.{chosen_at, filter_rises, range_rises}
@@ -139,11 +139,11 @@ module _ (s : Scene) (touches : List Touch) (bodies : List BodyState) (contacts 
         let own = λ (j : ℕ). get_or labels j 0 == label in
         let number : slice_get (group_members labels label) (length (filter own (range_with_len 0 n))) ≡ Some n =
         chosen_at own 0 (length labels) n inside (ap own from_zero ∙ eq-eqb label label refl) ∙ ap Some from_zero in (
-          slot_of labels awake label,
+          island_place labels awake label,
           record {
             island = island_named label;
             place = length (filter own (range_with_len 0 n));
-            is_there = slice_get-map island_named chosen (slot_of labels awake label)
+            is_there = slice_get-map island_named chosen (island_place labels awake label)
                 ∙ ap (option_map island_named) (name_at labels awake label labelled active);
             number = number;
             state = slice_get-map (λ m. get_or awake m no_state) (group_members labels label) _
@@ -194,10 +194,10 @@ module _ (s : Scene) (touches : List Touch) (bodies : List BodyState) (contacts 
           (λ r active.
           let own = group_active labels awake r (groups_named s touches) are_woken active in
           let label = group_of_row labels r in (
-            slot_of labels awake label,
+            island_place labels awake label,
             record {
               island = island_named label;
-              is_there = slice_get-map island_named chosen (slot_of labels awake label)
+              is_there = slice_get-map island_named chosen (island_place labels awake label)
                   ∙ ap (option_map island_named) (name_at labels awake label own.0 own.1);
               touched = touches_group labels awake label r active ∙ eq-eqb label label refl;
             },

@@ -10,7 +10,7 @@ pub mod Sleeping
 pub mod ActiveRows
 pub mod Listed
 pub mod Members
-pub mod Dealing
+pub mod Filled
 pub mod AwakeNumbers
 pub mod Flattened
 pub mod Elements

@@ -17,7 +17,7 @@ use Rattle.pf_islands.specs.Lone.{has_rows, is_touched, only_awake}
 use Rattle.pf_islands.specs.Rows.{is_awake_at}
 use Rattle.pf_islands.specs.Split.{AreWoken, IsActiveRow, Island, active_labels, is_active_label, island_of, islands}
 use Rattle.pf_cache.proofs.ChosenNumbers.{chosen_pass, range_within}
-use Rattle.pf_islands.proofs.Dealing.{touches_group}
+use Rattle.pf_islands.proofs.Filled.{touches_group}
 use Rattle.pf_islands.proofs.Listed.{awake_there}
 use Rattle.pf_islands.proofs.Members.{has_filter, has_range}
 use Rattle.pf_islands.proofs.SettledGroups.{filter_same}

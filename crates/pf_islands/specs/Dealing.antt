@@ -10,15 +10,15 @@ use Rattle.pf_islands.specs.Rows.{is_awake_at}
 use Rattle.pf_islands.specs.Split.{Island, is_active_label}
 
 -- how many groups that are simulated have lesser labels: the place of a group among the islands
-abbrev pub slot_of : List ℕ → List BodyState → ℕ → ℕ
-slot_of labels bodies label =
+abbrev pub island_place : List ℕ → List BodyState → ℕ → ℕ
+island_place labels bodies label =
     length (filter (is_active_label labels bodies) (range_with_len 0 label))
 
 -- each label of a group that is simulated has the place of the group's island
-abbrev pub AreSlots : List ℕ → List BodyState → List ℕ → Type 0
-AreSlots labels bodies slots =
+abbrev pub AreIslandPlaces : List ℕ → List BodyState → List ℕ → Type 0
+AreIslandPlaces labels bodies island_places =
     (i : ℕ) → i < length labels → is_active_label labels bodies i ≡ true
-    → slice_index_or slots i 0 ≡ slot_of labels bodies i
+    → slice_index_or island_places i 0 ≡ island_place labels bodies i
 
 -- an island with one body more
 abbrev pub with_island_body : ℕ → BodyState → Island → Island
@@ -41,11 +41,11 @@ abbrev pub group_of_row : List ℕ → Row → ℕ
 group_of_row labels r = group_of_sides labels r.entry.first r.entry.second
 
 -- a contact of bodies that have labels, whose group has its island at a place below `islands`
-pub record HasIsland (labels slots : List ℕ) (islands : ℕ) (r : Row) : Type 0 where
+pub record HasIsland (labels island_places : List ℕ) (islands : ℕ) (r : Row) : Type 0 where
   pub first : IsSide (length labels) r.entry.first
   pub second : IsSide (length labels) r.entry.second
   pub group : group_of_row labels r < length labels
-  pub slot : slice_index_or slots (group_of_row labels r) 0 < islands
+  pub island_place : slice_index_or island_places (group_of_row labels r) 0 < islands
 
 -- the side of a body, by its place in place of its number
 abbrev pub placed_side : List ℕ → Side → Side

@@ -3,6 +3,7 @@
 
 mod active;
 mod awake;
+mod dealing;
 mod forest;
 mod groups;
 mod island;

@@ -25,19 +25,19 @@ pub fn zeros(alloc: Global, len: usize) -> Result<Vec<u16>, AllocError>
 }
 
 /// Counts the contacts of each group at its label.
-fn count_rows(rows: &mut [u16], scene: &Scene, labels: &[usize], points: &[(usize, Touch)])
-    requires rows { length rows.old ≡ length labels.now }
+fn count_rows(counts: &mut [u16], scene: &Scene, labels: &[usize], points: &[(usize, Touch)])
+    requires counts { length counts.old ≡ length labels.now }
     requires labels { length labels.now ≡ length scene.now.fixtures }
     requires labelled { All (λ label. label < length labels.now) labels.now }
     requires touches { All (λ m. IsTouchOf (length labels.now) m.1) points.now }
-    requires zero { All (λ number. number ≡ 0) rows.old }
-    ensures { (label : ℕ) → label < length labels.now → (slice_index_or rows.new label 0 == 0)
+    requires zero { All (λ number. number ≡ 0) counts.old }
+    ensures { (label : ℕ) → label < length labels.now → (slice_index_or counts.new label 0 == 0)
         ≡ not (list_any (λ t. group_of_touch scene.now labels.now t == label)
         (touches_of points.now)) }
 {
     for point in points {
         let label = group_of_touch(scene, labels, &point.1);
-        rows[label] = rows[label].saturating_add(1);
+        counts[label] = counts[label].saturating_add(1);
     }
 }
 
@@ -53,14 +53,14 @@ pub fn row_counts(
     requires labels { length labels.now ≡ length scene.now.fixtures }
     requires labelled { All (λ label. label < length labels.now) labels.now }
     requires touches { All (λ m. IsTouchOf (length labels.now) m.1) points.now }
-    ensures as_many { IfOk result (λ rows. length rows.items ≡ length labels.now) }
-    ensures none { IfOk result (λ rows. (label : ℕ) → label < length labels.now
-        → (slice_index_or rows.items label 0 == 0)
+    ensures as_many { IfOk result (λ counts. length counts.items ≡ length labels.now) }
+    ensures none { IfOk result (λ counts. (label : ℕ) → label < length labels.now
+        → (slice_index_or counts.items label 0 == 0)
         ≡ not (list_any (λ t. group_of_touch scene.now labels.now t == label)
         (touches_of points.now))) }
     ensures no_memory { length labels.now ≡ 0 → IsOk result }
 {
-    let mut rows = zeros(alloc, labels.len())?;
-    count_rows(&mut rows, scene, labels, points);
-    Ok(rows)
+    let mut counts = zeros(alloc, labels.len())?;
+    count_rows(&mut counts, scene, labels, points);
+    Ok(counts)
 }

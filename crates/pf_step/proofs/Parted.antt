@@ -26,7 +26,7 @@ use Rattle.pf_islands.specs.Rows.{is_active_contact, is_awake_at}
 use Rattle.pf_islands.specs.Settled.{AreSettled}
 use Rattle.pf_islands.specs.Sleep.{at_sleep, island_after_sleep}
 use Rattle.pf_islands.specs.Split.{Island, active_labels, is_active_label, island_of}
-use Rattle.pf_islands.proofs.Dealing.{is_member}
+use Rattle.pf_islands.proofs.Filled.{is_member}
 use Rattle.pf_islands.proofs.Elements.{all_unmapped}
 use Rattle.pf_islands.proofs.HomeAgain.{joined_is}
 use Rattle.pf_islands.proofs.Lone.{touched_named}

@@ -4,6 +4,6 @@ use Rattle.pf_islands.proofs.sizes.count_rows.Given as goal
 
 abbrev pub invariant-loop-point : goal.invariant-loop-point
 invariant-loop-point l = record {
-  counted : (label : ℕ) → IsCounted l.scene l.labels (take l.point-index l.points) l.rows label;
-  long : length l.rows ≡ length l.labels;
+  counted : (label : ℕ) → IsCounted l.scene l.labels (take l.point-index l.points) l.counts label;
+  long : length l.counts ≡ length l.labels;
 }

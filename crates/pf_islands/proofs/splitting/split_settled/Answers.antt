@@ -37,7 +37,7 @@ parts c =
     (subst
     (λ (ns : List ℕ). (label : ℕ) → label < length labels → (get_or ns label 0 == 0)
     ≡ not (list_any (λ t. group_of_touch c.args.scene.now labels t == label) (touches_of points)))
-    (sym c.deref.ensures.value) c.in_ok-rows.ensures.none)
+    (sym c.deref.ensures.value) c.in_ok-row_counts.ensures.none)
     (c.deref-2.ensures.value ∙ c.in_ok-dealt.ensures.dealt
     ∙ ap (filter (λ n. is_dealt c.args.lone (get_or counts (get_or labels n 0) 0))) awake)
     (c.in_ok-dealt.ensures.lone_numbers

@@ -2,8 +2,8 @@ use Rattle.std.proofs.Common.{◌≡◌, map, take}
 use Rattle.pf_islands.specs.Lone.{only_awake}
 use Rattle.pf_islands.specs.Split.{active_labels}
 use Rattle.pf_islands.proofs.ActiveRows.{row_at}
-use Rattle.pf_islands.proofs.Dealing.{full_part}
-use Rattle.pf_islands.proofs.splitting.deal.Given as goal
+use Rattle.pf_islands.proofs.Filled.{full_part}
+use Rattle.pf_islands.proofs.dealing.deal.Given as goal
 
 abbrev pub invariant-loop-point : goal.invariant-loop-point
 invariant-loop-point l =

@@ -1,7 +1,7 @@
 use Rattle.std.proofs.Common.{◌≡◌, get_or, length}
 use Rattle.pf_islands.specs.Lone.{only_awake}
 use Rattle.pf_islands.proofs.AwakeNumbers.{AreDealt}
-use Rattle.pf_islands.proofs.splitting.deal_bodies.Given as goal
+use Rattle.pf_islands.proofs.dealing.deal_bodies.Given as goal
 
 abbrev pub invariant-loop-number : goal.invariant-loop-number
 invariant-loop-number l = record {

@@ -1,16 +1,16 @@
 use Rattle.std.proofs.Common.{rules, ◌≡◌, ◌<◌, ◌==◌, ◌∙◌, ℕ, List, ap, ap₂, arith, get_or, length, length-set, set, true}
 use Rattle.std.proofs.lemmas.List.{get_or_read}
 use Rattle.pf_shapes.specs.Body.{BodyState, no_state}
-use Rattle.pf_islands.specs.Dealing.{slot_of, with_island_body}
+use Rattle.pf_islands.specs.Dealing.{island_place, with_island_body}
 use Rattle.pf_islands.specs.Split.{Island, is_active_label, no_island}
 use Rattle.pf_islands.specs.Lone.{only_awake}
 use Rattle.pf_islands.specs.Rows.{is_awake_at}
 use Rattle.pf_islands.proofs.AwakeNumbers.{AreDealt, dealt_asleep}
-use Rattle.pf_islands.proofs.Dealing.{dealt_more, first_part, island_at, placed_more, slot_within}
+use Rattle.pf_islands.proofs.Filled.{dealt_more, first_part, island_at, placed_more, island_place_within}
 use Rattle.pf_cache.proofs.ChosenNumbers.{at_first, at_next, at_number, number_chosen, number_low}
 use Rattle.pf_islands.proofs.Members.{few_chosen}
-use Rattle.pf_islands.proofs.splitting.deal_bodies.Goals.{In-loop-number}
-use Rattle.pf_islands.proofs.splitting.deal_bodies.Goals as goal
+use Rattle.pf_islands.proofs.dealing.deal_bodies.Goals.{In-loop-number}
+use Rattle.pf_islands.proofs.dealing.deal_bodies.Goals as goal
 
 -- ---- the body of this turn of the loop
 
@@ -44,8 +44,8 @@ labelled c = c.requires.labelled (number c) 0 (inside c)
 active : (c : In-loop-number) → is_active_label c.args.labels.now (seen c) (label c) ≡ true
 active c = c.requires.woken_bodies.active (number c) (inside c) (awake c)
 
-slot : (c : In-loop-number) → get_or c.args.slots.now (label c) 0 ≡ slot_of c.args.labels.now (seen c) (label c)
-slot c = c.requires.slots (label c) (labelled c) (active c)
+island_place_is : (c : In-loop-number) → get_or c.args.island_places.now (label c) 0 ≡ island_place c.args.labels.now (seen c) (label c)
+island_place_is c = c.requires.island_places (label c) (labelled c) (active c)
 
 -- the bodies before it are dealt
 before : (c : In-loop-number) → AreDealt c.args.labels.now (seen c) c.loop-number.islands c.loop-number.places (number c)
@@ -55,12 +55,12 @@ before c =
     c.loop-number-test.true c.loop-number.invariant.dealt
 
 -- its place is behind those of its group
-place : (c : In-loop-number) (n p : ℕ) → n ≡ get_or c.args.slots.now (label c) 0
+place : (c : In-loop-number) (n p : ℕ) → n ≡ get_or c.args.island_places.now (label c) 0
     → p ≡ length (get_or c.loop-number.islands n no_island).numbers
     → p ≡ length (first_part c.args.labels.now (seen c) (number c) (label c)).numbers
-place c n p slot_is place_is =
+place c n p island_is place_is =
     place_is
-    ∙ ap₂ (λ xs m. length (get_or xs m no_island).numbers) (before c).parts (slot_is ∙ slot c)
+    ∙ ap₂ (λ xs m. length (get_or xs m no_island).numbers) (before c).parts (island_is ∙ island_place_is c)
     ∙ ap (λ (x : Island). length x.numbers)
     (island_at c.args.labels.now (seen c) (first_part c.args.labels.now (seen c) (number c)) (label c) (labelled c) (active c))
 
@@ -110,7 +110,7 @@ pub overflow_cast-places : goal.overflow_cast-places
 overflow_cast-places c =
     let at = (goal.at.overflow_cast-places c).In-loop-number in
     let few = few_chosen (λ j. get_or c.args.labels.now j 0 == label at) (number at) in
-    let place_is = place at _ _ c.from-slot.ensures c.in_ok-places.ensures.place in
+    let place_is = place at _ _ c.from-island_place.ensures c.in_ok-places.ensures.place in
     let low = inside at in
     search (rules, place_is, few, low, c.requires.few)
 
@@ -118,8 +118,8 @@ pub add_body-requires : goal.add_body-requires
 add_body-requires c =
     let at = (goal.at.add_body-requires c).In-loop-number in
     let labels = c.args.labels.now in
-    let within = slot_within labels (seen at) (first_part labels (seen at) (number at)) (label at) (labelled at) (active at) in
-    omega (arith, slot at, within, ap length (before at).parts)
+    let within = island_place_within labels (seen at) (first_part labels (seen at) (number at)) (label at) (labelled at) (active at) in
+    omega (arith, island_place_is at, within, ap length (before at).parts)
 
 pub loop-number-preserved : goal.loop-number-preserved
 loop-number-preserved c =
@@ -141,9 +141,9 @@ loop-number-preserved c =
                 ∙ c.requires.states k (awake at))
                 (before at).parts
                 (c.in_ok-places.ensures.added
-                ∙ ap (λ n. set islands n (with_island_body k body (get_or islands n no_island))) (c.from-slot.ensures ∙ slot at));
+                ∙ ap (λ n. set islands n (with_island_body k body (get_or islands n no_island))) (c.from-island_place.ensures ∙ island_place_is at));
             noted = placed_more labels bodies k places c.in_ok-places.field-0 (inside at) c.loop-number.invariant.long
-                (place at _ _ c.from-slot.ensures c.in_ok-places.ensures.place) (before at).noted;
+                (place at _ _ c.from-island_place.ensures c.in_ok-places.ensures.place) (before at).noted;
           });
       long = length-set places k _ ∙ c.loop-number.invariant.long;
     }

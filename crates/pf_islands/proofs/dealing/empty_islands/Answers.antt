@@ -6,21 +6,21 @@ use Rattle.pf_islands.proofs.AwakeNumbers.{AreEmptied, asleep_inactive, awake_ac
 use Rattle.pf_islands.specs.Split.{is_active_label}
 use Rattle.pf_cache.proofs.ChosenNumbers.{at_first, at_next, at_number, number_chosen, number_low}
 use Rattle.pf_islands.proofs.Members.{few_chosen}
-use Rattle.pf_islands.proofs.splitting.empty_islands.Goals.{then-labels-number+in_ok-clear_at, else-labels-number}
-use Rattle.pf_islands.proofs.splitting.empty_islands.Goals as goal
+use Rattle.pf_islands.proofs.dealing.empty_islands.Goals.{then-labels-number+in_ok-clear_at, else-labels-number}
+use Rattle.pf_islands.proofs.dealing.empty_islands.Goals as goal
 
 pub loop-number-init : goal.loop-number-init
 loop-number-init c =
     let labels = c.args.labels.now in
     let bodies = (only_awake c.args.numbers.now c.args.bodies.now) in
     let islands = c.args.spare.items in
-    let slots = c.args.rows.items in
+    let island_places = c.args.row_counts.items in
     record {
-      emptied = at_first (is_awake_at bodies) (length bodies) c.args.numbers.now c.requires.numbers (AreEmptied labels bodies islands 0 slots)
-          (λ j below asleep h. emptied_same labels bodies islands 0 slots j (asleep_inactive labels bodies j asleep) h)
-          (none_emptied labels bodies islands slots);
+      emptied = at_first (is_awake_at bodies) (length bodies) c.args.numbers.now c.requires.numbers (AreEmptied labels bodies islands 0 island_places)
+          (λ j below asleep h. emptied_same labels bodies islands 0 island_places j (asleep_inactive labels bodies j asleep) h)
+          (none_emptied labels bodies islands island_places);
       within = search rules;
-      long = c.requires.rows;
+      long = c.requires.row_counts;
     }
 
 pub offset_bounds-labels-number : goal.offset_bounds-labels-number
@@ -42,7 +42,7 @@ overflow_cast-count c =
     let test = c.loop-number-test.true in
     let low = number_low (is_awake_at bodies) (length bodies) numbers c.requires.numbers i 0 test in
     let before = at_number (is_awake_at bodies) (length bodies) numbers c.requires.numbers
-    (AreEmptied labels bodies c.loop-number.islands.items c.loop-number.count c.loop-number.slots.items) i test
+    (AreEmptied labels bodies c.loop-number.islands.items c.loop-number.count c.loop-number.island_places.items) i test
     c.loop-number.invariant.emptied in
     let number = before.number in
     let few = few_chosen (is_active_label labels bodies) (get_or numbers i 0) in
@@ -59,22 +59,22 @@ loop-number-preserved c =
     let low = number_low (is_awake_at bodies) (length bodies) numbers c.requires.numbers i 0 test in
     let awake = number_chosen (is_awake_at bodies) (length bodies) numbers c.requires.numbers i 0 test in
     let before = at_number (is_awake_at bodies) (length bodies) numbers c.requires.numbers
-    (AreEmptied labels bodies c.loop-number.islands.items c.loop-number.count c.loop-number.slots.items) i test
+    (AreEmptied labels bodies c.loop-number.islands.items c.loop-number.count c.loop-number.island_places.items) i test
     c.loop-number.invariant.emptied in
     record {
       emptied = elim c.if-labels-number.branch [
-        | then-labels-number+in_ok-clear_at w ↦ rw w.islands-is (rw w.slots-is (rw w.count-is
+        | then-labels-number+in_ok-clear_at w ↦ rw w.islands-is (rw w.island_places-is (rw w.count-is
             (at_next (is_awake_at bodies) (length bodies) numbers c.requires.numbers
             (AreEmptied labels bodies w.clear_at.new.islands.items (c.loop-number.count + 1)
-            (set c.loop-number.slots.items k c.loop-number.count))
+            (set c.loop-number.island_places.items k c.loop-number.count))
             (λ j below asleep h. emptied_same labels bodies _ _ _ j (asleep_inactive labels bodies j asleep) h) i test
             (emptied_more labels bodies c.loop-number.islands.items w.clear_at.new.islands.items c.loop-number.count
-            c.loop-number.slots.items k (omega (arith, low, c.requires.as_many_bodies, c.loop-number.invariant.long))
+            c.loop-number.island_places.items k (omega (arith, low, c.requires.as_many_bodies, c.loop-number.invariant.long))
             (awake_active labels bodies k true awake (eq-eqb (get_or labels k 0) k w.if-labels-number.true))
             w.in_ok-clear_at.ensures.cleared before))))
-        | else-labels-number w ↦ rw w.islands-is (rw w.slots-is (rw w.count-is
+        | else-labels-number w ↦ rw w.islands-is (rw w.island_places-is (rw w.count-is
             (at_next (is_awake_at bodies) (length bodies) numbers c.requires.numbers
-            (AreEmptied labels bodies c.loop-number.islands.items c.loop-number.count c.loop-number.slots.items)
+            (AreEmptied labels bodies c.loop-number.islands.items c.loop-number.count c.loop-number.island_places.items)
             (λ j below asleep h. emptied_same labels bodies _ _ _ j (asleep_inactive labels bodies j asleep) h) i test
             (emptied_same labels bodies _ _ _ k (awake_active labels bodies k false awake (ne_eqb (get_or labels k 0) k w.if-labels-number.false)) before))))
       ];
@@ -84,8 +84,8 @@ loop-number-preserved c =
         | else-labels-number w ↦ rw w.islands-is (rw w.count-is (c.loop-number.invariant.within))
       ];
       long = elim c.if-labels-number.branch [
-        | then-labels-number+in_ok-clear_at w ↦ rw w.slots-is
-            (length-set c.loop-number.slots.items k c.loop-number.count ∙ c.loop-number.invariant.long)
-        | else-labels-number w ↦ rw w.slots-is c.loop-number.invariant.long
+        | then-labels-number+in_ok-clear_at w ↦ rw w.island_places-is
+            (length-set c.loop-number.island_places.items k c.loop-number.count ∙ c.loop-number.invariant.long)
+        | else-labels-number w ↦ rw w.island_places-is c.loop-number.invariant.long
       ];
     }

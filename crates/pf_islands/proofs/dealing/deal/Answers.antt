@@ -2,17 +2,17 @@ use Rattle.std.proofs.Common.{rules, ◌∙◌, ◌<◌, arith, ℕ, List, ap, l
 use Rattle.std.specs.Prelude.{All}
 use Rattle.std.proofs.lemmas.List.{with_items_is}
 use Rattle.pf_manifold.specs.Touches.{IsTouchOf, Touch}
-use Rattle.pf_islands.specs.Dealing.{ArePlaces, AreSlots}
+use Rattle.pf_islands.specs.Dealing.{ArePlaces, AreIslandPlaces}
 use Rattle.pf_islands.specs.Lone.{only_awake}
 use Rattle.pf_islands.specs.Rows.{active_rows}
 use Rattle.pf_islands.specs.Split.{IsIslandOf, active_labels, islands}
 use Rattle.pf_islands.proofs.ActiveRows.{of_active, point_low, row_at, rows_fit}
-use Rattle.pf_islands.proofs.Dealing.{full_part}
+use Rattle.pf_islands.proofs.Filled.{full_part}
 use Rattle.pf_islands.proofs.DealtRows.{has_island, one_dealt}
 use Rattle.pf_islands.proofs.SettledGroups.{labels_long, labels_low, labels_rows, labels_woken}
 use Rattle.pf_islands.proofs.Whole.{islands_fit}
-use Rattle.pf_islands.proofs.splitting.deal.Goals.{After-point-item}
-use Rattle.pf_islands.proofs.splitting.deal.Goals as goal
+use Rattle.pf_islands.proofs.dealing.deal.Goals.{After-point-item}
+use Rattle.pf_islands.proofs.dealing.deal.Goals as goal
 
 pub empty_islands-requires-clause-as_many_bodies : goal.empty_islands-requires-clause-as_many_bodies
 empty_islands-requires-clause-as_many_bodies c =
@@ -43,8 +43,8 @@ loop-point-init c =
     with_items_is c.in_ok-made.made c.deal_bodies.new.islands (c.deal_bodies.auto.islands ∙ c.deref_mut.ensures.len)
     ∙ c.in_ok-deal_bodies.ensures.islands
 
-pub deal_row-requires-clause-slots : goal.deal_row-requires-clause-slots
-deal_row-requires-clause-slots c = ap length c.deref-in-loop-point.ensures.value ∙ c.in_ok-made.ensures.as_many
+pub deal_row-requires-clause-island_places : goal.deal_row-requires-clause-island_places
+deal_row-requires-clause-island_places c = ap length c.deref-in-loop-point.ensures.value ∙ c.in_ok-made.ensures.as_many
 
 -- the place of the contact point of this turn of the loop
 place_low : (c : After-point-item) → c.point-item.result.0 < length c.args.contacts.now
@@ -73,12 +73,12 @@ deal_row-requires-clause-touch c =
 
 pub deal_row-requires-clause-island : goal.deal_row-requires-clause-island
 deal_row-requires-clause-island c =
-    let slots = c.deref-in-loop-point.result.now in
+    let island_places = c.deref-in-loop-point.result.now in
     has_island c.args.scene.now (only_awake c.args.numbers.now c.args.bodies.now) c.requires.settled.touches c.args.contacts.now
-    c.args.points.now c.args.labels.now slots c.requires.as_many_bodies c.requires.settled.settled c.requires.settled.of_bodies
+    c.args.points.now c.args.labels.now island_places c.requires.as_many_bodies c.requires.settled.settled c.requires.settled.of_bodies
     c.requires.settled.as_many c.requires.settled.active c.requires.labelled
-    (subst (AreSlots c.args.labels.now (only_awake c.args.numbers.now c.args.bodies.now)) (sym c.deref-in-loop-point.ensures.value)
-    c.in_ok-made.ensures.slots)
+    (subst (AreIslandPlaces c.args.labels.now (only_awake c.args.numbers.now c.args.bodies.now)) (sym c.deref-in-loop-point.ensures.value)
+    c.in_ok-made.ensures.island_places)
     c.loop-point.point-index c.point-item.result c.index-contacts-place.result c.loop-point-test.true
     c.point-item.is c.index-contacts-place.is
     c.deref_mut-in-loop-point.result.now (c.deref_mut-in-loop-point.ensures.value ∙ c.loop-point.invariant)
@@ -96,7 +96,7 @@ loop-point-preserved c =
     c.deref-in-loop-point.result.now
     c.requires.as_many_bodies c.requires.settled.settled c.requires.settled.of_bodies c.requires.settled.as_many
     c.requires.settled.active c.requires.labelled
-    (subst (AreSlots labels bodies) (sym c.deref-in-loop-point.ensures.value) c.in_ok-made.ensures.slots)
+    (subst (AreIslandPlaces labels bodies) (sym c.deref-in-loop-point.ensures.value) c.in_ok-made.ensures.island_places)
     c.loop-point.point-index c.point-item.result c.index-contacts-place.result c.loop-point-test.true
     c.point-item.is c.index-contacts-place.is
     c.deref_mut-in-loop-point.result.now (c.deref_mut-in-loop-point.ensures.value ∙ c.loop-point.invariant)

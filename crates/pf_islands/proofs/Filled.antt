@@ -12,7 +12,7 @@ use Rattle.pf_manifold.specs.Key.{IsRising}
 use Rattle.pf_rows.specs.declared.row.Side.{Side}
 use Rattle.pf_rows.specs.declared.row.Side.TheVariants.{Static, Dynamic}
 use Rattle.pf_rows.specs.Row.{IsSide, Row}
-use Rattle.pf_islands.specs.Dealing.{ArePlaces, group_of_row, group_of_sides, placed_row, placed_side, slot_of, with_island_body, with_row}
+use Rattle.pf_islands.specs.Dealing.{ArePlaces, group_of_row, group_of_sides, placed_row, placed_side, island_place, with_island_body, with_row}
 use Rattle.pf_islands.specs.Island.{has_number, is_among, group_members, place_of, row_among, rows_among, side_among, states_of, touches_one}
 use Rattle.pf_islands.specs.Rows.{is_awake_at}
 use Rattle.pf_islands.specs.Split.{AreTogether, AreWoken, IsActiveRow, Island, active_labels, is_active_label, is_awake_side, island_of, no_island}
@@ -25,7 +25,7 @@ module _ (labels : List ℕ) (bodies : List BodyState) where
 
   -- so many islands are made as labels were met
   pub made_count : (k : ℕ) → length (map (λ (label : ℕ). no_island) (filter (is_active_label labels bodies) (range_with_len 0 k)))
-      ≡ slot_of labels bodies k
+      ≡ island_place labels bodies k
   made_count k = length-map (filter (is_active_label labels bodies) (range_with_len 0 k)) (λ (label : ℕ). no_island)
 
   -- one label more
@@ -45,9 +45,9 @@ module _ (labels : List ℕ) (bodies : List BodyState) where
       by true = refl
       by false = refl
 
-  pub slot_more : (k : ℕ) (e : Bool) → is_active_label labels bodies k ≡ e
-      → slot_of labels bodies (k + 1) ≡ slot_of labels bodies k + (if e then 1 else 0)
-  slot_more k e is =
+  pub island_place_more : (k : ℕ) (e : Bool) → is_active_label labels bodies k ≡ e
+      → island_place labels bodies (k + 1) ≡ island_place labels bodies k + (if e then 1 else 0)
+  island_place_more k e is =
       sym (made_count (k + 1)) ∙ ap length (made_more k e is)
       ∙ length-append (map (λ (label : ℕ). no_island) (filter (is_active_label labels bodies) (range_with_len 0 k))) (if e then no_island ∷ [] else [])
       ∙ ap₂ (λ m n. m + n) (made_count k) (by e)
@@ -98,43 +98,43 @@ module _ (labels : List ℕ) (bodies : List BodyState) where
   names_rise =
       filter_rises (is_active_label labels bodies) 0 (range_with_len 0 (length labels)) (range_rises 0 (length labels))
 
-  -- the island of a group that is simulated stands at its slot
+  -- the island of a group that is simulated stands at its place
   pub name_at : (label : ℕ) → label < length labels → is_active_label labels bodies label ≡ true
-      → slice_get (active_labels labels bodies) (slot_of labels bodies label) ≡ Some label
+      → slice_get (active_labels labels bodies) (island_place labels bodies label) ≡ Some label
   name_at label within active =
       let from_zero : 0 + label ≡ label = omega arith in
       chosen_at (is_active_label labels bodies) 0 (length labels) label within (ap (is_active_label labels bodies) from_zero ∙ active)
       ∙ ap Some from_zero
 
-  -- and so its slot is one of the islands
-  pub slot_within : {X : Type 0} (f : ℕ → X) (label : ℕ) → label < length labels → is_active_label labels bodies label ≡ true
-      → slot_of labels bodies label < length (map f (active_labels labels bodies))
-  slot_within f label within active =
-      let inside = slice_get_within (active_labels labels bodies) (slot_of labels bodies label) label (name_at label within active) in
+  -- and so its place is that of one of the islands
+  pub island_place_within : {X : Type 0} (f : ℕ → X) (label : ℕ) → label < length labels → is_active_label labels bodies label ≡ true
+      → island_place labels bodies label < length (map f (active_labels labels bodies))
+  island_place_within f label within active =
+      let inside = slice_get_within (active_labels labels bodies) (island_place labels bodies label) label (name_at label within active) in
       omega (arith, inside, length-map (active_labels labels bodies) f)
 
   -- what stands there
   pub island_at : (f : ℕ → Island) (label : ℕ) → label < length labels → is_active_label labels bodies label ≡ true
-      → get_or (map f (active_labels labels bodies)) (slot_of labels bodies label) no_island ≡ f label
+      → get_or (map f (active_labels labels bodies)) (island_place labels bodies label) no_island ≡ f label
   island_at f label within active =
-      get_or_from_slice_get (map f (active_labels labels bodies)) (slot_of labels bodies label) (f label) no_island
-      (slice_get-map f (active_labels labels bodies) (slot_of labels bodies label)
+      get_or_from_slice_get (map f (active_labels labels bodies)) (island_place labels bodies label) (f label) no_island
+      (slice_get-map f (active_labels labels bodies) (island_place labels bodies label)
       ∙ ap (λ o. option_map f o) (name_at label within active))
 
   -- an awake body is dealt
   pub dealt_more : (k : ℕ) (b : BodyState) (now after : List Island) → k < length labels → get_or labels k 0 < length labels
       → AreWoken labels bodies → is_awake_at bodies k ≡ true → b ≡ get_or bodies k no_state
       → now ≡ map (first_part k) (active_labels labels bodies)
-      → after ≡ set now (slot_of labels bodies (get_or labels k 0))
-      (with_island_body k b (get_or now (slot_of labels bodies (get_or labels k 0)) no_island))
+      → after ≡ set now (island_place labels bodies (get_or labels k 0))
+      (with_island_body k b (get_or now (island_place labels bodies (get_or labels k 0)) no_island))
       → after ≡ map (first_part (k + 1)) (active_labels labels bodies)
   dealt_more k b now after inside within woken_bodies awake is now_is after_is =
       let label = get_or labels k 0 in
-      let slot = slot_of labels bodies label in
+      let place = island_place labels bodies label in
       let active = woken_bodies.active k inside awake in
       after_is
-      ∙ ap (λ xs. set xs slot (with_island_body k b (get_or xs slot no_island))) now_is
-      ∙ set_mapped (first_part k) (first_part (k + 1)) 0 (active_labels labels bodies) slot label _ names_rise
+      ∙ ap (λ xs. set xs place (with_island_body k b (get_or xs place no_island))) now_is
+      ∙ set_mapped (first_part k) (first_part (k + 1)) 0 (active_labels labels bodies) place label _ names_rise
       (name_at label within active)
       (ap (with_island_body k b) (island_at (first_part k) label within active) ∙ part_more k label b (eq-eqb label label refl) is)
       (λ m apart. part_same k m (ne_eqb label m (λ same. apart (sym same))))
@@ -300,16 +300,16 @@ module _ (labels : List ℕ) (bodies : List BodyState) where
   pub row_dealt : (rows : List Row) (r : Row) (places : List ℕ) (now after : List Island)
       → All (λ label. label < length labels) labels → AreWoken labels bodies → ArePlaces labels bodies places
       → IsActiveRow labels bodies r → now ≡ map (full_part rows) (active_labels labels bodies)
-      → after ≡ set now (slot_of labels bodies (group_of_row labels r))
-      (with_row (placed_row places r) (get_or now (slot_of labels bodies (group_of_row labels r)) no_island))
+      → after ≡ set now (island_place labels bodies (group_of_row labels r))
+      (with_row (placed_row places r) (get_or now (island_place labels bodies (group_of_row labels r)) no_island))
       → after ≡ map (full_part (rows ++ r ∷ [])) (active_labels labels bodies)
   row_dealt rows r places now after labelled woken_bodies noted active now_is after_is =
       let label = group_of_row labels r in
-      let slot = slot_of labels bodies label in
+      let place = island_place labels bodies label in
       let own = group_active r labelled woken_bodies active in
       after_is
-      ∙ ap (λ xs. set xs slot (with_row (placed_row places r) (get_or xs slot no_island))) now_is
-      ∙ set_mapped (full_part rows) (full_part (rows ++ r ∷ [])) 0 (active_labels labels bodies) slot label _
+      ∙ ap (λ xs. set xs place (with_row (placed_row places r) (get_or xs place no_island))) now_is
+      ∙ set_mapped (full_part rows) (full_part (rows ++ r ∷ [])) 0 (active_labels labels bodies) place label _
       (names_rise labels bodies) (name_at labels bodies label own.0 own.1)
       (ap₂ with_row (row_placed places r labelled woken_bodies noted active) (island_at labels bodies (full_part rows) label own.0 own.1)
       ∙ ap (λ (rs : List Row). record (full_part rows label) { rows = rs })
