@@ -8,7 +8,7 @@ use Rattle.pf_shapes.specs.Body.{BodyState}
 use Rattle.pf_islands.specs.Dealing.{island_place}
 use Rattle.pf_islands.specs.Rows.{is_awake_at}
 use Rattle.pf_islands.specs.Split.{AreWoken, Island, active_labels, is_active_label, no_island}
-use Rattle.pf_islands.proofs.Filled.{HasPlace, dealt_same, first_part, made_more, placed_same, island_place_more}
+use Rattle.pf_islands.proofs.Filled.{HasPlace, dealt_same, first_part, island_place_more, made_more, placed_same}
 use Rattle.pf_islands.proofs.Members.{range_more}
 
 -- one body more

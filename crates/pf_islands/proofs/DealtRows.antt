@@ -7,13 +7,13 @@ use Rattle.pf_shapes.specs.Scene.{Scene}
 use Rattle.pf_manifold.specs.Touches.{IsTouchOf, Touch}
 use Rattle.pf_cache.specs.Contact.{Contact}
 use Rattle.pf_rows.specs.Row.{Row}
-use Rattle.pf_islands.specs.Dealing.{ArePlaces, AreIslandPlaces, HasIsland, group_of_row, placed_row, island_place, with_row}
+use Rattle.pf_islands.specs.Dealing.{AreIslandPlaces, ArePlaces, HasIsland, group_of_row, island_place, placed_row, with_row}
 use Rattle.pf_islands.specs.Group.{groups}
 use Rattle.pf_islands.specs.Rows.{active_points, row_of}
 use Rattle.pf_islands.specs.Settled.{AreSettled, touches_of}
 use Rattle.pf_islands.specs.Split.{AreWoken, IsActiveRow, Island, active_labels, is_active_label, no_island}
 use Rattle.pf_islands.proofs.ActiveRows.{row_at}
-use Rattle.pf_islands.proofs.Filled.{full_part, group_active, row_dealt, island_place_within}
+use Rattle.pf_islands.proofs.Filled.{full_part, group_active, island_place_within, row_dealt}
 use Rattle.pf_islands.proofs.SettledGroups.{labels_low, labels_rows, labels_woken}
 use Rattle.pf_islands.proofs.Together.{read_row_is_active}
 

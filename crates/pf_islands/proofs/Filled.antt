@@ -12,7 +12,7 @@ use Rattle.pf_manifold.specs.Key.{IsRising}
 use Rattle.pf_rows.specs.declared.row.Side.{Side}
 use Rattle.pf_rows.specs.declared.row.Side.TheVariants.{Static, Dynamic}
 use Rattle.pf_rows.specs.Row.{IsSide, Row}
-use Rattle.pf_islands.specs.Dealing.{ArePlaces, group_of_row, group_of_sides, placed_row, placed_side, island_place, with_island_body, with_row}
+use Rattle.pf_islands.specs.Dealing.{ArePlaces, group_of_row, group_of_sides, island_place, placed_row, placed_side, with_island_body, with_row}
 use Rattle.pf_islands.specs.Island.{has_number, is_among, group_members, place_of, row_among, rows_among, side_among, states_of, touches_one}
 use Rattle.pf_islands.specs.Rows.{is_awake_at}
 use Rattle.pf_islands.specs.Split.{AreTogether, AreWoken, IsActiveRow, Island, active_labels, is_active_label, is_awake_side, island_of, no_island}

@@ -31,8 +31,8 @@ abbrev pub woken_islands : Scene → List BodyState → List Touch → List Cont
 woken_islands s bodies touches contacts =
     group_islands s (woken_bodies (groups s touches) bodies) touches contacts
 
--- Of all these islands of a scene those are made that are to be made, and the numbers of the bodies
--- of the others are listed in ascending order. There are `count` bodies.
+-- `parts` has those of all islands that `lone` wants made, and lists the bodies of the others in
+-- ascending order; the scene has `count` bodies
 pub record AreParts
     (s : Scene) (count : ℕ) (lone : LoneBodies) (all : List Island) (parts : Parts)
     : Type 0 where

@@ -87,8 +87,8 @@ fn wakes_none(scene: &Scene, bodies: &[BodyState], touch: &Touch) -> bool
     fixtures[a].is_static() || fixtures[b].is_static()
 }
 
-/// Whether these contacts, which are simulated, wake no bodies.
-pub(crate) fn wake_none(scene: &Scene, bodies: &[BodyState], points: &[(usize, Touch)]) -> bool
+/// Whether each of these contacts, which are simulated, wakes none of its bodies.
+pub(crate) fn all_wake_none(scene: &Scene, bodies: &[BodyState], points: &[(usize, Touch)]) -> bool
     requires bodies { length bodies.now ≡ length scene.now.fixtures }
     requires touches { All (λ m. IsTouchOf (length bodies.now) m.1) points.now }
     ensures { result ≡ list_all (wakes_none scene.now bodies.now) (touches_of points.now) }

@@ -97,7 +97,7 @@ impl Groups {
         self.labels.as_slice()
     }
 
-    /// The phase Activity: wakes the bodies of each group that has an awake one. `marks` are
+    /// For the phase Activity: wakes the bodies of each group that has an awake one. `marks` are
     /// scratch space: a mark for each group, at its label. Takes no memory.
     #[inline(never)]
     pub(crate) fn wake(&self, marks: &mut [bool], bodies: &mut [BodyState])

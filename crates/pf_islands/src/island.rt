@@ -9,7 +9,8 @@ use smallvec::SmallVec;
 use std::alloc::{AllocError, Global};
 use std::marker::Model;
 
-/// An island keeps its memory up to so many times what it needs, and gives back more than that.
+/// An island gives all its memory back where it has at least so many times the memory that one body,
+/// or one contact, more than it needs would take.
 const MAX_SPARE: usize = 4;
 
 /// Some bodies of a world that contacts connect, and the contacts that touch them, as Box2D 2.x's

@@ -1,4 +1,5 @@
-//! Groups of bodies that contacts connect: which of them are simulated, and which go to sleep.
+//! Groups of bodies that contacts connect: which of them are awake, which go to sleep, and the islands
+//! of a tick, in which the awake ones are solved.
 #![tactic(auto)]
 
 mod active;

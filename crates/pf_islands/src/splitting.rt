@@ -11,7 +11,7 @@ ghost use Rattle.pf_islands.specs.Settled.{AreSettledPoints};
 ghost use Rattle.pf_islands.specs.Sleep.{woken_bodies};
 ghost use Rattle.pf_islands.specs.Splitting.{AreParts, point_islands, woken_islands};
 
-use crate::active::{Active, active_of, wake_none};
+use crate::active::{Active, active_of, all_wake_none};
 use crate::dealing::deal;
 use crate::forest::singles;
 use crate::groups::Groups;
@@ -119,8 +119,8 @@ fn split_settled(
     })
 }
 
-/// The phase Activity where a contact wakes a body: the bodies, where those of each group that has
-/// an awake one are awake. Takes no memory where there are no bodies and no contact points.
+/// For the phase Activity, where a contact wakes a body: the bodies, all awake in each group that
+/// has an awake one. Takes no memory where there are no bodies and no contact points.
 #[inline(never)]
 fn woken_bodies(
     alloc: Global,
@@ -138,6 +138,7 @@ fn woken_bodies(
 {
     let mut woken = Vec::with_capacity(alloc, bodies.len())?;
     woken.extend_from_slice(bodies)?;
+    // All are set, so that `points_of` gives each contact point; then they are scratch for `wake`.
     let mut marks = marks_of(alloc, bodies.len(), true)?;
     let points = manifolds.points_of(alloc, &marks)?;
     let numbers = singles(alloc, bodies.len())?;
@@ -200,7 +201,7 @@ pub fn wake_and_split(
     ensures no_memory { bodies.now ≡ [] → kept_touches manifolds.now ≡ [] → IsOk result }
 {
     let active = active_of(alloc, scene, bodies, manifolds, listed)?;
-    if wake_none(scene, bodies, &active.points) {
+    if all_wake_none(scene, bodies, &active.points) {
         return split_settled(alloc, spare, scene, bodies, contacts, &active, lone);
     }
     split(alloc, spare, scene, bodies, manifolds, contacts, lone)

@@ -2,7 +2,7 @@ use Rattle.std.proofs.Common.{rules, ◌∙◌, ◌<◌, arith, ℕ, List, ap, l
 use Rattle.std.specs.Prelude.{All}
 use Rattle.std.proofs.lemmas.List.{with_items_is}
 use Rattle.pf_manifold.specs.Touches.{IsTouchOf, Touch}
-use Rattle.pf_islands.specs.Dealing.{ArePlaces, AreIslandPlaces}
+use Rattle.pf_islands.specs.Dealing.{AreIslandPlaces, ArePlaces}
 use Rattle.pf_islands.specs.Lone.{only_awake}
 use Rattle.pf_islands.specs.Rows.{active_rows}
 use Rattle.pf_islands.specs.Split.{IsIslandOf, active_labels, islands}

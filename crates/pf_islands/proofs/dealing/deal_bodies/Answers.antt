@@ -6,7 +6,7 @@ use Rattle.pf_islands.specs.Split.{Island, is_active_label, no_island}
 use Rattle.pf_islands.specs.Lone.{only_awake}
 use Rattle.pf_islands.specs.Rows.{is_awake_at}
 use Rattle.pf_islands.proofs.AwakeNumbers.{AreDealt, dealt_asleep}
-use Rattle.pf_islands.proofs.Filled.{dealt_more, first_part, island_at, placed_more, island_place_within}
+use Rattle.pf_islands.proofs.Filled.{dealt_more, first_part, island_at, island_place_within, placed_more}
 use Rattle.pf_cache.proofs.ChosenNumbers.{at_first, at_next, at_number, number_chosen, number_low}
 use Rattle.pf_islands.proofs.Members.{few_chosen}
 use Rattle.pf_islands.proofs.dealing.deal_bodies.Goals.{In-loop-number}

@@ -8,8 +8,8 @@ use Rattle.pf_islands.proofs.ActiveRows.{of_active}
 use Rattle.pf_islands.proofs.SettledGroups.{same_islands, settled_from, woken_same}
 use Rattle.pf_islands.proofs.splitting.wake_and_split.Goals as goal
 
-pub wake_none-requires-clause-touches : goal.wake_none-requires-clause-touches
-wake_none-requires-clause-touches c =
+pub all_wake_none-requires-clause-touches : goal.all_wake_none-requires-clause-touches
+all_wake_none-requires-clause-touches c =
     of_active c.args.scene.now c.args.bodies.now (kept_touches c.args.manifolds.now) c.deref.result.now
     (IsTouchOf (length c.args.bodies.now)) (c.deref.ensures.value ∙ c.in_ok-active.ensures.points) c.requires.touches
 
@@ -21,19 +21,19 @@ split_settled-requires-clause-settled c =
       of_bodies = c.requires.touches;
       as_many = c.requires.contacts;
       settled = settled_from c.args.scene.now c.args.bodies.now touches c.deref.result.now
-          (c.deref.ensures.value ∙ c.in_ok-active.ensures.points) (sym c.wake_none.ensures ∙ c.if-wake_none.true);
+          (c.deref.ensures.value ∙ c.in_ok-active.ensures.points) (sym c.all_wake_none.ensures ∙ c.if-all_wake_none.true);
       active = c.in_ok-active.ensures.points;
     }
 
-pub returns-then-wake_none-clause-parts : goal.returns-then-wake_none-clause-parts
-returns-then-wake_none-clause-parts c =
+pub returns-then-all_wake_none-clause-parts : goal.returns-then-all_wake_none-clause-parts
+returns-then-all_wake_none-clause-parts c =
     let s = c.args.scene.now in
     let bodies = c.args.bodies.now in
     let touches = kept_touches c.args.manifolds.now in
     let contacts = c.args.contacts.now in
     let points = c.in_ok-active.active.points.items in
     let settled = settled_from s bodies touches c.deref.result.now
-    (c.deref.ensures.value ∙ c.in_ok-active.ensures.points) (sym c.wake_none.ensures ∙ c.if-wake_none.true) in
+    (c.deref.ensures.value ∙ c.in_ok-active.ensures.points) (sym c.all_wake_none.ensures ∙ c.if-all_wake_none.true) in
     let same : point_islands s bodies points contacts ≡ woken_islands s bodies touches contacts =
     same_islands s bodies touches contacts c.requires.bodies settled points c.in_ok-active.ensures.points
     ∙ ap (λ bs. group_islands s bs touches contacts) (sym (woken_same s bodies touches c.requires.bodies settled)) in

@@ -2,7 +2,7 @@ use Rattle.std.proofs.Common.{◌∙◌, ℕ, ap, sym}
 use Rattle.std.proofs.lemmas.List.Folds.{list_all-map, list_all_at}
 use Rattle.pf_manifold.specs.Touches.{Touch}
 use Rattle.pf_islands.specs.Settled.{wakes_none}
-use Rattle.pf_islands.proofs.active.wake_none.Goals as goal
+use Rattle.pf_islands.proofs.active.all_wake_none.Goals as goal
 
 pub returns-then-not-wakes_none : goal.returns-then-not-wakes_none
 returns-then-not-wakes_none c =

@@ -1,7 +1,7 @@
 use Rattle.std.proofs.Common.{◌≡◌, true, take}
 use Rattle.std.specs.List.{list_all}
 use Rattle.pf_islands.specs.Settled.{touches_of, wakes_none}
-use Rattle.pf_islands.proofs.active.wake_none.Given as goal
+use Rattle.pf_islands.proofs.active.all_wake_none.Given as goal
 
 abbrev pub invariant-loop-point : goal.invariant-loop-point
 invariant-loop-point l =
