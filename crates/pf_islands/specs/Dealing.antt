@@ -1,5 +1,6 @@
 -- How islands are filled, body by body and contact by contact.
-use Rattle.std.specs.Prelude.{◌≡◌, ℕ, ◌<◌, true, List, [], ◌∷◌, ◌++◌, length, filter, slice_index_or}
+use Rattle.std.specs.Prelude.{◌≡◌, ℕ, ◌<◌, true, List, [], ◌∷◌, ◌++◌, length, filter}
+use Rattle.std.specs.Prelude.{slice_index_or}
 use Rattle.std.specs.List.{range_with_len}
 use Rattle.pf_shapes.specs.Body.{BodyState}
 use Rattle.pf_rows.specs.declared.row.Side.{Side}

@@ -1,6 +1,7 @@
 -- Groups of bodies that contacts connect, each labelled by its least body, as a union-find keeps
 -- them. A law says that two bodies are in one group exactly where one reaches the other.
-use Rattle.std.specs.Prelude.{◌≡◌, ◌<◌, ◌≤◌, ℕ, ◌==◌, min, max, List, [], ◌∷◌, length, map, All, if◌then◌else◌}
+use Rattle.std.specs.Prelude.{◌≡◌, ◌<◌, ◌≤◌, ℕ, ◌==◌, min, max, List, [], ◌∷◌, length, map, All}
+use Rattle.std.specs.Prelude.{if◌then◌else◌}
 use Rattle.std.specs.List.{range_with_len}
 use Rattle.pf_shapes.specs.Scene.{Scene}
 use Rattle.pf_shapes.specs.declared.scene.TheConstants.{MAX_BODIES}

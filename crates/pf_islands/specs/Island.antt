@@ -1,6 +1,7 @@
 -- Islands, as Box2D 2.x's b2Island: some bodies that contacts connect, with the contacts that touch
 -- them. Its contacts have its bodies by their places in the island.
-use Rattle.std.specs.Prelude.{◌≡◌, ℕ, suc, ◌==◌, Bool, true, false, ◌||◌, List, [], ◌∷◌, length, map, filter, slice_index_or, if◌then◌else◌}
+use Rattle.std.specs.Prelude.{◌≡◌, ℕ, suc, ◌==◌, Bool, true, false, ◌||◌, List, [], ◌∷◌, length}
+use Rattle.std.specs.Prelude.{map, filter, slice_index_or, if◌then◌else◌}
 use Rattle.std.specs.List.{list_any, range_with_len}
 use Rattle.pf_shapes.specs.Body.{BodyState, no_state}
 use Rattle.pf_rows.specs.declared.row.Side.{Side}

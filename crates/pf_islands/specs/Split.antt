@@ -1,6 +1,7 @@
 -- The islands of a tick, as Box2D 2.x's b2World::Solve makes them: one for each group that is
 -- simulated, with the bodies of the group and the contacts that touch them.
-use Rattle.std.specs.Prelude.{◌≡◌, ℕ, ◌<◌, ◌==◌, Bool, true, false, ◌&&◌, ◌||◌, List, [], All, length, map, filter, slice_index_or}
+use Rattle.std.specs.Prelude.{◌≡◌, ℕ, ◌<◌, ◌==◌, Bool, true, false, ◌&&◌, ◌||◌, List, [], All}
+use Rattle.std.specs.Prelude.{length, map, filter, slice_index_or}
 use Rattle.std.specs.List.{range_with_len}
 use Rattle.pf_shapes.specs.Body.{BodyState}
 use Rattle.pf_shapes.specs.Scene.{Scene}

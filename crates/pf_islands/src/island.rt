@@ -9,8 +9,8 @@ use smallvec::SmallVec;
 use std::alloc::{AllocError, Global};
 use std::marker::Model;
 
-/// An island gives all its memory back where it has at least so many times the memory that one body,
-/// or one contact, more than it needs would take.
+/// An island that needs room for `n` bodies or contacts, and has room for `MAX_SPARE * (n + 1)` of
+/// them or more, gives all its memory back.
 const MAX_SPARE: usize = 4;
 
 /// Some bodies of a world that contacts connect, and the contacts that touch them, as Box2D 2.x's

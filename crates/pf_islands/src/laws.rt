@@ -1,6 +1,7 @@
 //! Laws of groups. These functions compute nothing: their clauses are the statements.
 
-ghost use Rattle.std.specs.Prelude.{◌≡◌, ◌≤◌, ℕ, ◌↔◌, All, List, Some, true, false, length, map, slice_get, slice_index};
+ghost use Rattle.std.specs.Prelude.{◌≡◌, ◌≤◌, ℕ, ◌↔◌, All, List, Some, true, false, length, map};
+ghost use Rattle.std.specs.Prelude.{slice_get, slice_index};
 ghost use Rattle.pf_shapes.specs.Body.{BodyState};
 ghost use Rattle.pf_shapes.specs.Scene.{Scene};
 ghost use Rattle.pf_manifold.specs.Key.{AreTouches, IsRising, key_of};
@@ -9,7 +10,8 @@ ghost use Rattle.pf_cache.specs.Contact.{AreContacts, Contact};
 ghost use Rattle.pf_rows.specs.Row.{AreRows, Row};
 ghost use Rattle.pf_cache.specs.ContactRows.{AreRowsAt};
 ghost use Rattle.pf_islands.specs.Island.{rows_among};
-ghost use Rattle.pf_islands.specs.Laws.{HasBody, HasRow, HaveOwnBodies, HaveOwnContacts, HoldsRow, active_bodies, islands_of, rows_of};
+ghost use Rattle.pf_islands.specs.Laws.{HasBody, HasRow, HaveOwnBodies, HaveOwnContacts, HoldsRow};
+ghost use Rattle.pf_islands.specs.Laws.{active_bodies, islands_of, rows_of};
 ghost use Rattle.pf_islands.specs.Join.{IsAtHome, joined_bodies, joined_contacts};
 ghost use Rattle.pf_islands.specs.Split.{Island};
 ghost use Rattle.pf_islands.specs.Reach.{Reaches};

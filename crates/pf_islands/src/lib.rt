@@ -1,5 +1,5 @@
-//! Groups of bodies that contacts connect: which of them are awake, which go to sleep, and the islands
-//! of a tick, in which the awake ones are solved.
+//! Groups of bodies that contacts connect: which of them are awake, and which go to sleep; and the
+//! islands of a tick, in which awake bodies are solved.
 #![tactic(auto)]
 
 mod active;
