@@ -5,11 +5,11 @@ ghost use Rattle.std.specs.Prelude.{◌≡◌, ◌<◌, [], All, length, IfOk, I
 ghost use Rattle.std.specs.List.{list_all};
 ghost use Rattle.pf_manifold.specs.Touches.{IsTouchOf};
 ghost use Rattle.pf_cache.specs.Manifolds.{kept_touches};
-ghost use Rattle.pf_islands.specs.Flags.{ListsAwake, awake_numbers};
+ghost use Rattle.pf_islands.specs.Flags.{awake_numbers};
 ghost use Rattle.pf_islands.specs.Rows.{active_points, side_of};
 ghost use Rattle.pf_islands.specs.Settled.{touches_of, wakes_none};
 
-use crate::awake::{awake_numbers, simulated_flags};
+use crate::awake::simulated_flags;
 use pf_cache::Manifolds;
 use pf_manifold::Touch;
 use pf_rows::Side;
@@ -39,26 +39,24 @@ pub(crate) struct Active {
     pub points: Vec<(usize, Touch)>,
 }
 
-/// Which bodies and contact points are simulated. `listed` has each awake body; its numbers may be
-/// in any order, and repeat. Where all bodies sleep, no contact point is looked at. Takes no memory
-/// where there are no bodies and no contact points.
+/// Which bodies and contact points are simulated. `numbers` are those of the awake bodies, in
+/// ascending order. Where all bodies sleep, no contact point is looked at. Takes no memory where
+/// there are no bodies and no contact points.
 pub(crate) fn active_of(
     alloc: Global,
     scene: &Scene,
     bodies: &[BodyState],
     manifolds: &Manifolds,
-    listed: &[usize],
+    numbers: Vec<usize>,
 ) -> Result<Active, AllocError>
     requires bodies { length bodies.now ≡ length scene.now.fixtures }
     requires touches { All (IsTouchOf (length bodies.now)) (kept_touches manifolds.now) }
-    requires listed { All (λ number. number < length bodies.now) listed.now }
-    requires awake { ListsAwake listed.now bodies.now }
+    requires numbers { numbers.items ≡ awake_numbers bodies.now }
     ensures numbers { IfOk result (λ found. found.numbers.items ≡ awake_numbers bodies.now) }
     ensures points { IfOk result (λ found. found.points.items
         ≡ active_points scene.now bodies.now (kept_touches manifolds.now)) }
     ensures no_memory { bodies.now ≡ [] → kept_touches manifolds.now ≡ [] → IsOk result }
 {
-    let numbers = awake_numbers(alloc, bodies, listed)?;
     if numbers.is_empty() {
         let points = Vec::new(alloc);
         return Ok(Active { numbers, points });

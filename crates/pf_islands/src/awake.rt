@@ -28,7 +28,7 @@ fn awake_among(
 }
 
 /// The numbers of all awake bodies, in ascending order. Takes no memory where there are no bodies.
-fn awake_of_all(alloc: Global, bodies: &[BodyState]) -> Result<Vec<usize>, AllocError>
+pub(crate) fn awake_of_all(alloc: Global, bodies: &[BodyState]) -> Result<Vec<usize>, AllocError>
     ensures value { IfOk result (λ numbers. numbers.items ≡ awake_numbers bodies.now) }
     ensures no_memory { bodies.now ≡ [] → IsOk result }
 {

@@ -12,6 +12,7 @@ ghost use Rattle.pf_islands.specs.Sleep.{woken_bodies};
 ghost use Rattle.pf_islands.specs.Splitting.{AreParts, point_islands, woken_islands};
 
 use crate::active::{Active, active_of, all_wake_none};
+use crate::awake::{awake_numbers, awake_of_all};
 use crate::dealing::deal;
 use crate::forest::singles;
 use crate::groups::Groups;
@@ -172,8 +173,8 @@ pub fn split(
 {
     let woken = woken_bodies(alloc, scene, bodies, manifolds)?;
     let bodies = woken.as_slice();
-    let all_numbers = singles(alloc, bodies.len())?;
-    let active = active_of(alloc, scene, bodies, manifolds, &all_numbers)?;
+    let numbers = awake_of_all(alloc, bodies)?;
+    let active = active_of(alloc, scene, bodies, manifolds, numbers)?;
     split_settled(alloc, spare, scene, bodies, contacts, &active, lone)
 }
 
@@ -200,7 +201,8 @@ pub fn wake_and_split(
         (woken_islands scene.now bodies.now (kept_touches manifolds.now) contacts.now)) }
     ensures no_memory { bodies.now ≡ [] → kept_touches manifolds.now ≡ [] → IsOk result }
 {
-    let active = active_of(alloc, scene, bodies, manifolds, listed)?;
+    let numbers = awake_numbers(alloc, bodies, listed)?;
+    let active = active_of(alloc, scene, bodies, manifolds, numbers)?;
     if all_wake_none(scene, bodies, &active.points) {
         return split_settled(alloc, spare, scene, bodies, contacts, &active, lone);
     }

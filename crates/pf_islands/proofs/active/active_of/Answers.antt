@@ -13,12 +13,12 @@ use Rattle.pf_islands.proofs.active.active_of.Goals as goal
 pub returns-then-is_empty-clause-points : goal.returns-then-is_empty-clause-points
 returns-then-is_empty-clause-points c =
     let bodies = c.args.bodies.now in
-    let none : length c.in_ok-numbers.numbers.items ≡ 0 =
-    sym c.in_ok-numbers.numbers.ok.0 ∙ eqb-true c.in_ok-numbers.numbers.len 0 (sym c.is_empty.ensures ∙ c.if-is_empty.true) in
+    let none : length c.args.numbers.items ≡ 0 =
+    sym c.args.numbers.ok.0 ∙ eqb-true c.args.numbers.len 0 (sym c.is_empty.ensures ∙ c.if-is_empty.true) in
     c.new-points.ensures.items
     ∙ sym
     (none_active c.args.scene.now bodies (kept_touches c.args.manifolds.now)
-    (none_awake bodies (sym (ap length c.in_ok-numbers.ensures.value) ∙ none)))
+    (none_awake bodies (sym (ap length c.requires.numbers) ∙ none)))
 
 pub points_of-requires : goal.points_of-requires
 points_of-requires c =

@@ -3,25 +3,11 @@ use Rattle.std.specs.Prelude.{All}
 use Rattle.std.proofs.lemmas.Result.{IfOk-weaker}
 use Rattle.pf_manifold.specs.Touches.{IsTouchOf}
 use Rattle.pf_cache.specs.Manifolds.{kept_touches}
-use Rattle.pf_cache.proofs.ChosenNumbers.{range_within}
 use Rattle.pf_islands.specs.Lone.{lone_numbers, made_islands}
 use Rattle.pf_islands.specs.Settled.{AreSettled}
 use Rattle.pf_islands.specs.Splitting.{group_islands, point_islands, woken_islands}
-use Rattle.pf_islands.proofs.Listed.{all_listed}
 use Rattle.pf_islands.proofs.SettledGroups.{same_islands, woken_settled}
 use Rattle.pf_islands.proofs.splitting.split.Goals as goal
-
-pub active_of-requires-clause-listed : goal.active_of-requires-clause-listed
-active_of-requires-clause-listed c =
-    let count = length c.as_slice-bodies.result.now in
-    subst (All (λ number. number < count)) (sym (c.deref.ensures.value ∙ c.in_ok-all_numbers.ensures.value))
-    (range_within 0 count count (omega arith))
-
-pub active_of-requires-clause-awake : goal.active_of-requires-clause-awake
-active_of-requires-clause-awake c =
-    let woken = c.as_slice-bodies.result.now in
-    all_listed c.deref.result.now (length woken) woken
-    (c.deref.ensures.value ∙ c.in_ok-all_numbers.ensures.value) refl
 
 pub split_settled-requires-clause-settled : goal.split_settled-requires-clause-settled
 split_settled-requires-clause-settled c =
