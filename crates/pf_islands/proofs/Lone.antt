@@ -13,7 +13,7 @@ use Rattle.pf_rows.specs.Row.{Row}
 use Rattle.pf_islands.specs.Dealing.{group_of_row}
 use Rattle.pf_islands.specs.Flags.{awake_numbers}
 use Rattle.pf_islands.specs.Island.{has_number, group_members, row_among, rows_among, states_of, touches_one}
-use Rattle.pf_islands.specs.Lone.{has_rows, is_touched, only_awake}
+use Rattle.pf_islands.specs.Lone.{AreSomeAwake, has_rows, is_touched, only_awake}
 use Rattle.pf_islands.specs.Rows.{is_awake_at}
 use Rattle.pf_islands.specs.Split.{AreWoken, IsActiveRow, Island, active_labels, is_active_label, island_of, islands}
 use Rattle.pf_cache.proofs.ChosenNumbers.{chosen_pass, range_within}
@@ -125,7 +125,7 @@ module _ (labels : List ℕ) (bodies : List BodyState) (q : ℕ → Bool) (numbe
   abbrev seen : List BodyState
   seen = only_awake numbers bodies
 
-  pub seen_long : length seen ≡ length bodies
+  seen_long : length seen ≡ length bodies
   seen_long = length-map (enumerate_from 0 bodies) _ ∙ length-enumerate_from 0 bodies
 
   -- a body as it is seen
@@ -159,7 +159,7 @@ module _ (labels : List ℕ) (bodies : List BodyState) (q : ℕ → Bool) (numbe
       ∙ ap (λ t. t && q (get_or labels k 0)) (sym (ap (λ (b : BodyState). b.awake) (get_or-eq_default bodies no_state beyond))))
       (cases_lt k (length bodies))
 
-  pub seen_numbers : numbers ≡ awake_numbers seen
+  seen_numbers : numbers ≡ awake_numbers seen
   seen_numbers =
       are ∙ filter_twice (is_awake_at bodies) (λ n. q (get_or labels n 0)) (range_with_len 0 (length bodies))
       ∙ filter_same (λ n. is_awake_at bodies n && q (get_or labels n 0)) (is_awake_at seen) (range_with_len 0 (length bodies))
@@ -167,13 +167,16 @@ module _ (labels : List ℕ) (bodies : List BodyState) (q : ℕ → Bool) (numbe
       ∙ ap (λ n. filter (is_awake_at seen) (range_with_len 0 n)) (sym seen_long)
 
   -- and then it is as it is
-  pub seen_same : (k : ℕ) → is_awake_at seen k ≡ true → get_or bodies k no_state ≡ get_or seen k no_state
+  seen_same : (k : ℕ) → is_awake_at seen k ≡ true → get_or bodies k no_state ≡ get_or seen k no_state
   seen_same k awake =
       let within : k < length bodies = omega (arith, awake_there seen k awake, seen_long) in
       let b = get_or bodies k no_state in
       let is : b.awake ≡ true = (and_parts (is_awake_at bodies k) (q (get_or labels k 0)) (sym (seen_awake k) ∙ awake)).0 in
       let also : has_number numbers k ≡ true = sym (ap (λ (x : BodyState). x.awake) (seen_at k within)) ∙ awake in
       ap (λ t. record b { awake = t }) (is ∙ sym also) ∙ sym (seen_at k within)
+
+  pub seen_some : AreSomeAwake (length bodies) numbers bodies
+  seen_some = record { as_many = seen_long; in_order = seen_numbers; states = seen_same }
 
   -- the labels of these groups
   pub seen_active : (k : ℕ) → is_active_label labels seen k ≡ (is_active_label labels bodies k && q k)

@@ -3,7 +3,7 @@ use Rattle.std.proofs.Common.{◌≡◌, ◌∙◌, ℕ, ◌<◌, ◌==◌, Bool
 use Rattle.std.proofs.lemmas.List.Elements.{All-filter}
 use Rattle.std.specs.List.{flat_map, list_any, range_with_len}
 use Rattle.std.specs.Prelude.{All}
-use Rattle.pf_shapes.specs.Body.{BodyState, no_state}
+use Rattle.pf_shapes.specs.Body.{BodyState}
 use Rattle.pf_shapes.specs.Scene.{Scene}
 use Rattle.pf_manifold.specs.Touches.{IsTouchOf, Touch}
 use Rattle.pf_cache.specs.Contact.{Contact}
@@ -14,12 +14,12 @@ use Rattle.pf_islands.specs.declared.splitting.LoneBodies.TheVariants.{AreIsland
 use Rattle.pf_islands.specs.Flags.{awake_numbers}
 use Rattle.pf_islands.specs.Group.{groups}
 use Rattle.pf_islands.specs.Island.{group_members}
-use Rattle.pf_islands.specs.Lone.{group_of_touch, is_dealt, is_made, lone_numbers, made_islands, only_awake}
-use Rattle.pf_islands.specs.Rows.{active_points, active_rows, is_active_contact, is_awake_at}
+use Rattle.pf_islands.specs.Lone.{AreSomeAwake, group_of_touch, is_dealt, is_made, lone_numbers, made_islands, only_awake}
+use Rattle.pf_islands.specs.Rows.{active_points, active_rows, is_active_contact}
 use Rattle.pf_islands.specs.Settled.{AreSettled, touches_of}
 use Rattle.pf_islands.specs.Split.{Island, active_labels, is_active_label, island_of, islands}
 use Rattle.pf_islands.proofs.ActiveRows.{touches_of_active}
-use Rattle.pf_islands.proofs.Lone.{group_has_rows, lone_numbers_are, seen_islands, seen_long, seen_numbers, seen_same, touched_islands}
+use Rattle.pf_islands.proofs.Lone.{group_has_rows, lone_numbers_are, seen_islands, seen_some, touched_islands}
 use Rattle.pf_islands.proofs.LoneGroups.{has_touch, lone_are, rows_of_group, same_act, same_points, same_rows, still_settled}
 use Rattle.pf_islands.proofs.SettledGroups.{chosen_rows, chosen_woken, filter_same, islands_same}
 
@@ -40,12 +40,8 @@ module _ (s : Scene) (bodies : List BodyState) (touches : List Touch) (contacts 
 
   -- these bodies go into islands, which are made of them as if only they were awake, and these do not
   pub record IsParted (numbers alone : List ℕ) : Type 0 where
-    pub long : length (only_awake numbers bodies) ≡ length bodies
-    pub states :
-        (k : ℕ) → is_awake_at (only_awake numbers bodies) k ≡ true
-        → get_or bodies k no_state ≡ get_or (only_awake numbers bodies) k no_state
+    pub numbers_are : AreSomeAwake (length bodies) numbers bodies
     pub settled : AreSettled s (only_awake numbers bodies) touches
-    pub numbers_are : numbers ≡ awake_numbers (only_awake numbers bodies)
     pub points : active_points s bodies touches ≡ active_points s (only_awake numbers bodies) touches
     pub made :
         islands (groups s touches) (only_awake numbers bodies) (active_rows s (only_awake numbers bodies) touches contacts)
@@ -122,16 +118,14 @@ module _ (s : Scene) (bodies : List BodyState) (touches : List Touch) (contacts 
         pub parted_chosen : IsParted numbers alone
         parted_chosen =
             let seen = only_awake numbers bodies in
-            let long = seen_long labels bodies (q lone) numbers numbers_are in
+            let some = seen_some labels bodies (q lone) numbers numbers_are in
             let still = still_settled s bodies touches count settled of (q lone) numbers numbers_are (has lone) in
             record {
-              long = long;
-              states = seen_same labels bodies (q lone) numbers numbers_are;
+              numbers_are = some;
               settled = still;
-              numbers_are = seen_numbers labels bodies (q lone) numbers numbers_are;
               points = sym (same_points s bodies touches count settled of (q lone) numbers numbers_are (has lone));
               made = ap (islands (groups s touches) seen) (same_rows s bodies touches count settled of (q lone) numbers numbers_are (has lone) contacts)
-                  ∙ sym (islands_same s seen touches (long ∙ count) still rows)
+                  ∙ sym (islands_same s seen touches (some.as_many ∙ count) still rows)
                   ∙ ap (λ ls. islands ls seen rows) same_labels
                   ∙ seen_islands labels bodies (q lone) numbers numbers_are (chosen_woken s bodies touches count settled) rows
                   ∙ made_are lone

@@ -1,16 +1,18 @@
 -- Bodies that no contact touches: their islands have no contacts, so a tick may leave these islands
 -- out and advance the bodies by themselves.
-use Rattle.std.specs.Prelude.{ℕ, ◌==◌, Bool, true, false, not, List, [], ◌∷◌, filter, map}
+use Rattle.std.specs.Prelude.{◌≡◌, ℕ, ◌==◌, Bool, true, false, not, List, [], ◌∷◌, length, filter}
+use Rattle.std.specs.Prelude.{map, slice_index_or}
 use Rattle.std.specs.List.{enumerate_from, flat_map}
-use Rattle.pf_shapes.specs.Body.{BodyState}
+use Rattle.pf_shapes.specs.Body.{BodyState, no_state}
 use Rattle.pf_shapes.specs.Scene.{Scene}
 use Rattle.pf_manifold.specs.Touches.{Touch}
 use Rattle.pf_rows.specs.Row.{Row}
 use Rattle.pf_islands.specs.declared.splitting.LoneBodies.{LoneBodies}
 use Rattle.pf_islands.specs.declared.splitting.LoneBodies.TheVariants.{AreIslands, AreListed}
 use Rattle.pf_islands.specs.Dealing.{group_of_sides}
+use Rattle.pf_islands.specs.Flags.{awake_numbers}
 use Rattle.pf_islands.specs.Island.{has_number}
-use Rattle.pf_islands.specs.Rows.{side_of}
+use Rattle.pf_islands.specs.Rows.{is_awake_at, side_of}
 use Rattle.pf_islands.specs.Split.{Island}
 
 -- whether there are rows
@@ -48,3 +50,12 @@ is_dealt AreListed count = not (count == 0)
 abbrev pub only_awake : List ℕ → List BodyState → List BodyState
 only_awake numbers bodies =
     map (λ m. record m.1 { awake = has_number numbers m.0 }) (enumerate_from 0 bodies)
+
+-- these are the numbers of some of `count` bodies, all of them awake, in ascending order: among
+-- `only_awake` bodies they are the awake ones, with the states that they have in `bodies`
+pub record AreSomeAwake (count : ℕ) (numbers : List ℕ) (bodies : List BodyState) : Type 0 where
+  pub as_many : length (only_awake numbers bodies) ≡ count
+  pub in_order : numbers ≡ awake_numbers (only_awake numbers bodies)
+  pub states :
+      (k : ℕ) → is_awake_at (only_awake numbers bodies) k ≡ true
+      → slice_index_or bodies k no_state ≡ slice_index_or (only_awake numbers bodies) k no_state

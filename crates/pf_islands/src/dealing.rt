@@ -1,15 +1,14 @@
 //! How the islands of a tick are made, and filled with bodies and contacts.
 
-ghost use Rattle.std.specs.Prelude.{◌≡◌, ◌<◌, ◌≤◌, ◌+◌, ◌++◌, ◌∷◌, [], true, ℕ, All};
+ghost use Rattle.std.specs.Prelude.{◌≡◌, ◌<◌, ◌≤◌, ◌+◌, ◌++◌, ◌∷◌, [], All};
 ghost use Rattle.std.specs.Prelude.{IfOk, IsOk, OnOk, length, map, slice_index_or, slice_set, take};
-ghost use Rattle.pf_shapes.specs.Body.{no_state};
 ghost use Rattle.pf_shapes.specs.declared.scene.TheConstants.{MAX_BODIES};
 ghost use Rattle.pf_rows.specs.Row.{IsSide, new_row};
 ghost use Rattle.pf_manifold.specs.Touches.{IsTouchOf};
 ghost use Rattle.pf_islands.specs.Group.{groups};
 ghost use Rattle.pf_islands.specs.Island.{group_members};
-ghost use Rattle.pf_islands.specs.Lone.{only_awake};
-ghost use Rattle.pf_islands.specs.Rows.{is_awake_at, row_of};
+ghost use Rattle.pf_islands.specs.Lone.{AreSomeAwake, only_awake};
+ghost use Rattle.pf_islands.specs.Rows.{row_of};
 ghost use Rattle.pf_islands.specs.Flags.{awake_numbers};
 ghost use Rattle.pf_islands.specs.Settled.{AreSettledPoints, touches_of};
 ghost use Rattle.pf_islands.specs.Splitting.{point_islands};
@@ -130,11 +129,7 @@ fn deal_bodies(
 ) -> Result<(), AllocError>
     requires few { length labels.now ≤ MAX_BODIES }
     requires bodies { length bodies.now ≡ length labels.now }
-    requires as_many_bodies { length (only_awake numbers.now bodies.now) ≡ length labels.now }
-    requires states { (k : ℕ) → is_awake_at (only_awake numbers.now bodies.now) k ≡ true
-        → slice_index_or bodies.now k no_state
-        ≡ slice_index_or (only_awake numbers.now bodies.now) k no_state }
-    requires numbers { numbers.now ≡ awake_numbers (only_awake numbers.now bodies.now) }
+    requires numbers { AreSomeAwake (length labels.now) numbers.now bodies.now }
     requires places { length places.old ≡ length labels.now }
     requires island_places { AreIslandPlaces labels.now (only_awake numbers.now bodies.now)
         island_places.now }
@@ -230,15 +225,10 @@ pub(crate) fn deal(
 ) -> Result<Vec<Island>, AllocError>
     requires few { length labels.now ≤ MAX_BODIES }
     requires bodies { length bodies.now ≡ length scene.now.fixtures }
-    requires as_many_bodies { length (only_awake numbers.now bodies.now)
-        ≡ length scene.now.fixtures }
-    requires states { (k : ℕ) → is_awake_at (only_awake numbers.now bodies.now) k ≡ true
-        → slice_index_or bodies.now k no_state
-        ≡ slice_index_or (only_awake numbers.now bodies.now) k no_state }
     requires settled { AreSettledPoints scene.now (only_awake numbers.now bodies.now)
         (length contacts.now) points.now }
     requires labelled { labels.now ≡ groups scene.now (touches_of points.now) }
-    requires numbers { numbers.now ≡ awake_numbers (only_awake numbers.now bodies.now) }
+    requires numbers { AreSomeAwake (length scene.now.fixtures) numbers.now bodies.now }
     requires row_counts { length row_counts.items ≡ length labels.now }
     ensures value { IfOk result (λ found. found.items
         ≡ point_islands scene.now (only_awake numbers.now bodies.now) points.now contacts.now) }

@@ -14,28 +14,35 @@ use Rattle.pf_islands.proofs.Whole.{islands_fit}
 use Rattle.pf_islands.proofs.dealing.deal.Goals.{After-point-item}
 use Rattle.pf_islands.proofs.dealing.deal.Goals as goal
 
+pub empty_islands-requires-clause-numbers : goal.empty_islands-requires-clause-numbers
+empty_islands-requires-clause-numbers c = c.requires.numbers.in_order
+
 pub empty_islands-requires-clause-as_many_bodies : goal.empty_islands-requires-clause-as_many_bodies
 empty_islands-requires-clause-as_many_bodies c =
     sym
-    (labels_long c.args.scene.now (only_awake c.args.numbers.now c.args.bodies.now) c.requires.settled.touches c.requires.as_many_bodies c.requires.settled.settled c.args.labels.now
+    (labels_long c.args.scene.now (only_awake c.args.numbers.now c.args.bodies.now) c.requires.settled.touches c.requires.numbers.as_many c.requires.settled.settled c.args.labels.now
     c.args.points.now c.requires.settled.active c.requires.labelled)
 
-pub deal_bodies-requires-clause-as_many_bodies : goal.deal_bodies-requires-clause-as_many_bodies
-deal_bodies-requires-clause-as_many_bodies c =
-    sym
-    (labels_long c.args.scene.now (only_awake c.args.numbers.now c.args.bodies.now) c.requires.settled.touches c.requires.as_many_bodies c.requires.settled.settled c.args.labels.now
-    c.args.points.now c.requires.settled.active c.requires.labelled)
+pub deal_bodies-requires-clause-numbers : goal.deal_bodies-requires-clause-numbers
+deal_bodies-requires-clause-numbers c =
+    record {
+      as_many = sym
+          (labels_long c.args.scene.now (only_awake c.args.numbers.now c.args.bodies.now) c.requires.settled.touches c.requires.numbers.as_many c.requires.settled.settled c.args.labels.now
+          c.args.points.now c.requires.settled.active c.requires.labelled);
+      in_order = c.requires.numbers.in_order;
+      states = c.requires.numbers.states;
+    }
 
 pub deal_bodies-requires-clause-bodies : goal.deal_bodies-requires-clause-bodies
 deal_bodies-requires-clause-bodies c =
-    c.requires.bodies ∙ sym c.requires.as_many_bodies
+    c.requires.bodies ∙ sym c.requires.numbers.as_many
     ∙ sym
-    (labels_long c.args.scene.now (only_awake c.args.numbers.now c.args.bodies.now) c.requires.settled.touches c.requires.as_many_bodies c.requires.settled.settled c.args.labels.now
+    (labels_long c.args.scene.now (only_awake c.args.numbers.now c.args.bodies.now) c.requires.settled.touches c.requires.numbers.as_many c.requires.settled.settled c.args.labels.now
     c.args.points.now c.requires.settled.active c.requires.labelled)
 
 pub deal_bodies-requires-clause-labelled : goal.deal_bodies-requires-clause-labelled
 deal_bodies-requires-clause-labelled c =
-    labels_low c.args.scene.now (only_awake c.args.numbers.now c.args.bodies.now) c.requires.settled.touches c.requires.as_many_bodies c.requires.settled.settled c.args.labels.now
+    labels_low c.args.scene.now (only_awake c.args.numbers.now c.args.bodies.now) c.requires.settled.touches c.requires.numbers.as_many c.requires.settled.settled c.args.labels.now
     c.args.points.now c.requires.settled.active c.requires.labelled
 
 pub loop-point-init : goal.loop-point-init
@@ -66,7 +73,7 @@ deal_row-requires-clause-touch c =
     let bodies = only_awake c.args.numbers.now c.args.bodies.now in
     let k = c.loop-point.point-index in
     let m = c.point-item.result in
-    subst (λ n. IsTouchOf n m.1) c.requires.as_many_bodies
+    subst (λ n. IsTouchOf n m.1) c.requires.numbers.as_many
     (subst (λ (x : ℕ × Touch). IsTouchOf (length bodies) x.1) (sym c.point-item.is)
     (of_active c.args.scene.now bodies c.requires.settled.touches c.args.points.now (IsTouchOf (length bodies))
     c.requires.settled.active c.requires.settled.of_bodies k m c.loop-point-test.true))
@@ -75,7 +82,7 @@ pub deal_row-requires-clause-island : goal.deal_row-requires-clause-island
 deal_row-requires-clause-island c =
     let island_places = c.deref-in-loop-point.result.now in
     has_island c.args.scene.now (only_awake c.args.numbers.now c.args.bodies.now) c.requires.settled.touches c.args.contacts.now
-    c.args.points.now c.args.labels.now island_places c.requires.as_many_bodies c.requires.settled.settled c.requires.settled.of_bodies
+    c.args.points.now c.args.labels.now island_places c.requires.numbers.as_many c.requires.settled.settled c.requires.settled.of_bodies
     c.requires.settled.as_many c.requires.settled.active c.requires.labelled
     (subst (AreIslandPlaces c.args.labels.now (only_awake c.args.numbers.now c.args.bodies.now)) (sym c.deref-in-loop-point.ensures.value)
     c.in_ok-made.ensures.island_places)
@@ -94,7 +101,7 @@ loop-point-preserved c =
     with_items_is c.loop-point.made c.deal_row.new.islands (c.deal_row.auto.islands ∙ c.deref_mut-in-loop-point.ensures.len)
     ∙ one_dealt c.args.scene.now bodies c.requires.settled.touches c.args.contacts.now c.args.points.now labels
     c.deref-in-loop-point.result.now
-    c.requires.as_many_bodies c.requires.settled.settled c.requires.settled.of_bodies c.requires.settled.as_many
+    c.requires.numbers.as_many c.requires.settled.settled c.requires.settled.of_bodies c.requires.settled.as_many
     c.requires.settled.active c.requires.labelled
     (subst (AreIslandPlaces labels bodies) (sym c.deref-in-loop-point.ensures.value) c.in_ok-made.ensures.island_places)
     c.loop-point.point-index c.point-item.result c.index-contacts-place.result c.loop-point-test.true
@@ -104,7 +111,7 @@ loop-point-preserved c =
 
 pub deal_bodies-requires-clause-woken_bodies : goal.deal_bodies-requires-clause-woken_bodies
 deal_bodies-requires-clause-woken_bodies c =
-    labels_woken c.args.scene.now (only_awake c.args.numbers.now c.args.bodies.now) c.requires.settled.touches c.requires.as_many_bodies
+    labels_woken c.args.scene.now (only_awake c.args.numbers.now c.args.bodies.now) c.requires.settled.touches c.requires.numbers.as_many
     c.requires.settled.settled c.args.labels.now c.args.points.now c.requires.settled.active c.requires.labelled
 
 pub returns-clause-value : goal.returns-clause-value
@@ -128,7 +135,7 @@ returns-clause-fit c =
     let labels = c.args.labels.now in
     let points = c.args.points.now in
     let rows = active_rows s bodies touches contacts in
-    let active = labels_rows s bodies touches c.requires.as_many_bodies c.requires.settled.settled labels points
+    let active = labels_rows s bodies touches c.requires.numbers.as_many c.requires.settled.settled labels points
     c.requires.settled.active c.requires.labelled contacts c.requires.settled.of_bodies in
     subst (All (IsIslandOf s))
     (sym
@@ -136,4 +143,4 @@ returns-clause-fit c =
     ∙ ap (λ (ls : List ℕ). islands ls bodies (map (row_at s contacts) points)) (sym c.requires.labelled)
     ∙ ap (λ ms. islands labels bodies (map (row_at s contacts) ms)) c.requires.settled.active))
     (islands_fit labels bodies rows s active
-    (rows_fit s bodies touches contacts c.requires.as_many_bodies c.requires.settled.of_bodies))
+    (rows_fit s bodies touches contacts c.requires.numbers.as_many c.requires.settled.of_bodies))

@@ -26,15 +26,15 @@ label c = get_or c.args.labels.now (number c) 0
 
 low : (c : In-loop-number) → number c < length (seen c)
 low c =
-    number_low (is_awake_at (seen c)) (length (seen c)) c.args.numbers.now c.requires.numbers
+    number_low (is_awake_at (seen c)) (length (seen c)) c.args.numbers.now c.requires.numbers.in_order
     c.loop-number.number-index 0 c.loop-number-test.true
 
 inside : (c : In-loop-number) → number c < length c.args.labels.now
-inside c = omega (arith, low c, c.requires.as_many_bodies)
+inside c = omega (arith, low c, c.requires.numbers.as_many)
 
 awake : (c : In-loop-number) → is_awake_at (seen c) (number c) ≡ true
 awake c =
-    number_chosen (is_awake_at (seen c)) (length (seen c)) c.args.numbers.now c.requires.numbers
+    number_chosen (is_awake_at (seen c)) (length (seen c)) c.args.numbers.now c.requires.numbers.in_order
     c.loop-number.number-index 0 c.loop-number-test.true
 
 labelled : (c : In-loop-number) → label c < length c.args.labels.now
@@ -50,7 +50,7 @@ island_place_is c = c.requires.island_places (label c) (labelled c) (active c)
 -- the bodies before it are dealt
 before : (c : In-loop-number) → AreDealt c.args.labels.now (seen c) c.loop-number.islands c.loop-number.places (number c)
 before c =
-    at_number (is_awake_at (seen c)) (length (seen c)) c.args.numbers.now c.requires.numbers
+    at_number (is_awake_at (seen c)) (length (seen c)) c.args.numbers.now c.requires.numbers.in_order
     (AreDealt c.args.labels.now (seen c) c.loop-number.islands c.loop-number.places) c.loop-number.number-index
     c.loop-number-test.true c.loop-number.invariant.dealt
 
@@ -71,9 +71,9 @@ loop-number-init c =
     let labels = c.args.labels.now in
     let bodies = (only_awake c.args.numbers.now c.args.bodies.now) in
     record {
-      dealt = at_first (is_awake_at bodies) (length bodies) c.args.numbers.now c.requires.numbers (AreDealt labels bodies c.args.islands.now c.args.places.now)
+      dealt = at_first (is_awake_at bodies) (length bodies) c.args.numbers.now c.requires.numbers.in_order (AreDealt labels bodies c.args.islands.now c.args.places.now)
           (λ j below asleep h.
-          dealt_asleep labels bodies _ _ j (omega (arith, below, c.requires.as_many_bodies)) c.requires.woken_bodies asleep h)
+          dealt_asleep labels bodies _ _ j (omega (arith, below, c.requires.numbers.as_many)) c.requires.woken_bodies asleep h)
           (record { parts = c.requires.empty; noted = λ i below. absurd (omega (arith, below)) });
       long = c.requires.places;
     }
@@ -131,14 +131,14 @@ loop-number-preserved c =
     let places = c.loop-number.places in
     let body = c.index-bodies-number.result in
     record {
-      dealt = at_next (is_awake_at bodies) (length bodies) c.args.numbers.now c.requires.numbers (AreDealt labels bodies _ _)
+      dealt = at_next (is_awake_at bodies) (length bodies) c.args.numbers.now c.requires.numbers.in_order (AreDealt labels bodies _ _)
           (λ j below asleep h.
-          dealt_asleep labels bodies _ _ j (omega (arith, below, c.requires.as_many_bodies)) c.requires.woken_bodies asleep h)
+          dealt_asleep labels bodies _ _ j (omega (arith, below, c.requires.numbers.as_many)) c.requires.woken_bodies asleep h)
           c.loop-number.number-index c.loop-number-test.true
           (record {
             parts = dealt_more labels bodies k body islands c.add_body.new.islands (inside at) (labelled at) c.requires.woken_bodies (awake at)
                 (get_or_read c.args.bodies.now k body (omega (arith, inside at, c.requires.bodies)) c.index-bodies-number.is no_state
-                ∙ c.requires.states k (awake at))
+                ∙ c.requires.numbers.states k (awake at))
                 (before at).parts
                 (c.in_ok-places.ensures.added
                 ∙ ap (λ n. set islands n (with_island_body k body (get_or islands n no_island))) (c.from-island_place.ensures ∙ island_place_is at));

@@ -4,7 +4,7 @@ use Rattle.std.specs.List.{list_any, range_with_len}
 use Rattle.pf_manifold.specs.Key.{IsRising}
 use Rattle.pf_manifold.specs.Touches.{IsTouchOf, Touch}
 use Rattle.pf_cache.proofs.ChosenNumbers.{number_low}
-use Rattle.pf_islands.specs.Lone.{group_of_touch, is_dealt, lone_numbers, made_islands, only_awake}
+use Rattle.pf_islands.specs.Lone.{AreSomeAwake, group_of_touch, is_dealt, lone_numbers, made_islands, only_awake}
 use Rattle.pf_islands.specs.Rows.{is_awake_at}
 use Rattle.pf_islands.specs.Settled.{touches_of}
 use Rattle.pf_islands.proofs.ActiveRows.{of_active}
@@ -75,26 +75,22 @@ parted_numbers-requires-clause-numbers c =
     (c.as_slice-numbers.ensures.value ∙ c.requires.numbers) in
     subst (λ n. All (λ number. number < n) c.as_slice-numbers.result.now) (sym many) low
 
-pub deal-requires-clause-as_many_bodies : goal.deal-requires-clause-as_many_bodies
-deal-requires-clause-as_many_bodies c = (parts (goal.at.deal-requires-clause-as_many_bodies c).After-deref-2).long ∙ c.requires.bodies
-
-pub deal-requires-clause-states : goal.deal-requires-clause-states
-deal-requires-clause-states c = (parts (goal.at.deal-requires-clause-states c).After-deref-2).states
-
 pub deal-requires-clause-settled : goal.deal-requires-clause-settled
 deal-requires-clause-settled c =
     let parted = parts (goal.at.deal-requires-clause-settled c).After-deref-2 in
     let settled = c.requires.settled in
     record {
       touches = settled.touches;
-      of_bodies = subst (λ n. All (IsTouchOf n) settled.touches) (sym parted.long) settled.of_bodies;
+      of_bodies = subst (λ n. All (IsTouchOf n) settled.touches) (sym parted.numbers_are.as_many) settled.of_bodies;
       as_many = settled.as_many;
       settled = parted.settled;
       active = c.as_slice-points.ensures.value ∙ settled.active ∙ parted.points;
     }
 
 pub deal-requires-clause-numbers : goal.deal-requires-clause-numbers
-deal-requires-clause-numbers c = (parts (goal.at.deal-requires-clause-numbers c).After-deref-2).numbers_are
+deal-requires-clause-numbers c =
+    subst (λ n. AreSomeAwake n c.deref-2.result.now c.args.bodies.now) c.requires.bodies
+    (parts (goal.at.deal-requires-clause-numbers c).After-deref-2).numbers_are
 
 pub returns-clause-parts : goal.returns-clause-parts
 returns-clause-parts c =
@@ -111,7 +107,7 @@ returns-clause-parts c =
     let settled = c.requires.settled in
     let points = c.as_slice-points.result.now in
     let active = c.as_slice-points.ensures.value ∙ settled.active in
-    let seen = same_islands s (only_awake c.deref-2.result.now bodies) settled.touches contacts (parted.long ∙ c.requires.bodies)
+    let seen = same_islands s (only_awake c.deref-2.result.now bodies) settled.touches contacts (parted.numbers_are.as_many ∙ c.requires.bodies)
     parted.settled points (active ∙ parted.points) in
     let all = sym
     (same_islands s bodies settled.touches contacts c.requires.bodies settled.settled c.args.active.now.points.items settled.active) in
