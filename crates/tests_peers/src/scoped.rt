@@ -13,37 +13,37 @@ use tests_gates::{Book, Rule, TrialGate};
 /// A circle that falls.
 const SCENE: &[u8] = b"gravity 0 -167772160\ncircle 0 16777216 0 16777216 0 0\nend\n";
 
-/// What a peer at tick 10 answers to two settles by a crew of two with a gate of this rule, and
-/// what the gate notes.
-fn settle_twice<R: Threads + Wait + Sync>(
-    rt: &R,
+/// What a peer at tick 10 answers to two settles by a crew of two with this gate.
+fn settle_twice<'r, R: Threads + Wait + Sync>(
+    rt: &'r R,
     alloc: Global,
-    rule: Rule,
-) -> Result<([Result<u32, StepError>; 2], String), Fail> {
-    let book = Arc::new(alloc, Book::new(alloc, 2)?)?;
-    let gate = TrialGate::<false>::new(rule, Arc::try_clone(&book)?);
-    let any_gate: &(dyn Gate + Sync) = &gate;
-    let mut crew = ScopedCrew::new(rt, alloc, 2, any_gate);
+    gate: &'r (dyn Gate + Sync),
+) -> Result<[Result<u32, StepError>; 2], Fail> {
+    let mut crew = ScopedCrew::new(rt, alloc, 2, gate);
     let mut peer = PeerCore::new(alloc, Scene::read(alloc, SCENE)?, 0, MAX_RING)?;
     peer.advance(10)?;
     let first = peer.settle_with(rt, alloc, &mut crew);
     let second = peer.settle_with(rt, alloc, &mut crew);
-    Ok(([first, second], book.text(alloc)?))
+    Ok([first, second])
 }
 
 #[test]
 fn workers_meet_at_a_borrowed_gate(rt: HostRuntime) -> Result<(), Fail> {
-    let (answers, noted) = settle_twice(&rt, rt.alloc(), Rule::Meeting)?;
+    let book = Arc::new(rt.alloc(), Book::new(rt.alloc(), 2)?)?;
+    let gate = TrialGate::<false>::new(Rule::Meeting, Arc::try_clone(&book)?);
+    let answers = settle_twice(&rt, rt.alloc(), &gate)?;
     assert!(rt; answers == [Ok(10), Ok(10)]);
-    assert!(rt; noted.as_str() == " shut 0 passes 10/10 10/10");
+    assert!(rt; book.text(rt.alloc())?.as_str() == " shut 0 passes 10/10 10/10");
     Ok(())
 }
 
 #[test]
 fn a_borrowed_gate_may_be_shut(rt: HostRuntime) -> Result<(), Fail> {
     let rule = Rule::Shut { worker: 1, turn: 0 };
-    let (answers, noted) = settle_twice(&rt, rt.alloc(), rule)?;
+    let book = Arc::new(rt.alloc(), Book::new(rt.alloc(), 2)?)?;
+    let gate = TrialGate::<false>::new(rule, Arc::try_clone(&book)?);
+    let answers = settle_twice(&rt, rt.alloc(), &gate)?;
     assert!(rt; answers == [Err(StepError::Crew(CrewError::GateShut)), Ok(10)]);
-    assert!(rt; noted.as_str() == " shut 1 passes 11/11 11/11");
+    assert!(rt; book.text(rt.alloc())?.as_str() == " shut 1 passes 11/11 11/11");
     Ok(())
 }
