@@ -50,6 +50,7 @@ world_after s before bodies =
       contacts = with_rows contacts after.rows;
     }
 
--- the world one tick later, with the payloads of the tick's commands in order of player, then number
+-- the world one tick later, with the payloads of the tick's commands in order of player, then
+-- number
 unfoldable pub step : Scene → World → List Payload → World
 step s w payloads = world_after s w.contacts (after_commands s.fixtures w.bodies payloads)

@@ -17,8 +17,8 @@ use pf_shapes::Scene;
 use std::alloc::{AllocError, Global};
 use std::thread::Threads;
 
-/// [`step_next`] of any world: which of its bodies may have moved since contact points were kept in
-/// `work` is not known, so that all bodies, and the keys of all contacts, are compared.
+/// [`step_next`] of any world: what `work` knows of moved bodies is forgotten first, so that all
+/// bodies, and the keys of all contacts, are compared.
 pub fn step_by<P: Collider, C: Crew>(
     collider: &P,
     alloc: Global,

@@ -1,4 +1,5 @@
-//! The phase Points: the contact points of a tick.
+//! The phase Points: the contact points of a tick. Its contacts follow in
+//! [`Changes::update_contacts`](crate::Changes).
 
 ghost use Rattle.std.specs.Prelude.{◌≡◌, ◌<◌, [], All, length, map, IfOk, IsOk, IsTrue};
 ghost use Rattle.pf_manifold.specs.Key.{key_of};

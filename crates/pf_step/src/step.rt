@@ -1,7 +1,7 @@
 //! A tick: from a world to the world one tick later. Its definition is `specs/Step.antt`.
-//! [`step_next`] does the phase Commands and undoes a tick that fails; `finish_tick` does the others:
-//! Points (`points.rt`), Activity (`activity.rt`), and Gravity to Sleep, of islands by the crew
-//! (`crew.rt`) and of lone bodies where they stand.
+//! [`step_next`] does the phase Commands, and undoes a tick that fails. `finish_tick` does the
+//! phases after it: Points (`points.rt`), Activity (`activity.rt`), and Gravity to Sleep, of
+//! islands by the crew (`crew.rt`) and of lone bodies where they stand.
 
 ghost use Rattle.std.specs.Prelude.{◌≡◌, ◌≢◌, ◌<◌, [], Err, All, length, map, IfOk, IsTrue, OnOk};
 ghost use Rattle.pf_manifold.specs.Key.{key_of};
@@ -31,8 +31,9 @@ use pf_shapes::Scene;
 use pf_solver::solve_lone_bodies;
 use std::alloc::Global;
 
-/// Whether fewer than half of the bodies, rounded down, may have moved. Where these are more, making
-/// all contacts anew takes less time than noting those that change.
+/// Whether fewer than half of the bodies, rounded down, may have moved; a body may be counted
+/// twice. Where there are more, making all contacts anew takes less time than noting those that
+/// change.
 fn few_may_have_moved(moved: usize, bodies: usize) -> bool {
     moved < bodies / 2
 }
@@ -47,9 +48,9 @@ fn few_may_have_moved(moved: usize, bodies: usize) -> bool {
 /// counted. Takes no memory of its own where there are no bodies.
 ///
 /// The world has to be the one that the last step with `work` left, unless `work` knows nothing of
-/// moved bodies. Only bodies that may have moved or have a command are compared with how they stood.
-/// Where the points are known to have the keys of the last ones, keys of contacts are not compared.
-/// [`step_by`](crate::step_by) has no such condition.
+/// moved bodies. Only bodies that may have moved or have a command are compared with how they
+/// stood. Where the points are known to have the keys of the last ones, keys of contacts are not
+/// compared. [`step_by`](crate::step_by) has no such condition.
 pub fn step_next<P: Collider, C: Crew>(
     collider: &P,
     alloc: Global,
@@ -100,11 +101,11 @@ pub fn step_next<P: Collider, C: Crew>(
 
 /// The phases of a tick after Commands, on the world that Commands left. `kept` are the contact
 /// points of the last tick; with `is_known` the contacts have their keys, in the same order. Makes
-/// the islands of the tick, has them solved by one call of the crew, and puts them back. If the crew
-/// allows it, lone bodies are in none of them and go through the tick where they stand, and without
-/// islands the crew is not called. Notes what changes, and lists the noted bodies as those that may
-/// have moved. Returns what the narrow phase found. After an error the contacts may have changed,
-/// and what changed is noted. Takes no memory of its own where there are no bodies.
+/// the islands of the tick, has them solved by one call of the crew, and puts them back. If the
+/// crew allows it, lone bodies are in no island and go from Gravity to Sleep where they stand;
+/// then, without islands, the crew is not called. Notes what changes, and lists the noted bodies as
+/// those that may have moved. Returns what the narrow phase found. After an error the contacts may
+/// have changed, and what changed is noted. Takes no memory of its own where there are no bodies.
 fn finish_tick<P: Collider, C: Crew>(
     collider: &P,
     alloc: Global,
@@ -147,7 +148,7 @@ fn finish_tick<P: Collider, C: Crew>(
     // Activity
     let lone = crew.lone_bodies();
     let parts = split_and_note(alloc, scene, world, manifolds, work, changes, lone)?;
-    // For the next step; before the crew is called, since a step without memory has not called it.
+    // Before the crew is called: a step that is out of memory must not have called it.
     work.set_moved(changes.bodies())?;
     // Gravity to Sleep
     let solved = solve_by(crew, scene, parts.islands, lone)?;

@@ -43,7 +43,7 @@ impl Gate for OpenGate {
     }
 }
 
-/// Any gate, by reference. It may be shut.
+/// Any gate, by reference. Contracts take it as one that may be shut.
 impl<'g> Gate for &'g (dyn Gate + Sync) {
     ghost use Rattle.std.specs.Prelude.{false};
 

@@ -186,7 +186,8 @@ impl<'r, R: Threads + Wait> Crew for ScopedCrew<'r, R, OpenGate> {
     }
 }
 
-/// A crew with any gate, which it borrows: it solves as with the gate itself.
+/// A crew that borrows its gate, of any type. To contracts it may fail by a shut gate, even where
+/// that one lets everybody through.
 impl<'r, R: Threads + Wait> Crew for ScopedCrew<'r, R, &'r (dyn Gate + Sync)> {
     ghost use Rattle.std.specs.Prelude.{◌≡◌, false};
     ghost use Rattle.pf_workers.specs.Crew.{IsScopedError, next_turn};
