@@ -1,17 +1,14 @@
--- Pairs are in the order of their ranks, and slots are found by them.
-use Rattle.std.proofs.Common.{◌≡◌, ℕ, suc, ◌≤◌, ◌<◌, ◌==◌, ◌⊎◌, ⊎_elim, inl, inr, Bool, true, false, ◌&&◌, Some, List, [], ◌∷◌, map, refl, sym, ap, ◌∙◌, true≢false, ltb-true, eqb-true, arith}
+-- Pairs are in the order of their ranks.
+use Rattle.std.proofs.Common.{◌≡◌, ℕ, suc, ◌≤◌, ◌<◌, ◌==◌, ◌⊎◌, ⊎_elim, inl, inr, Bool, true, false, ◌&&◌, List, [], ◌∷◌, map, refl, sym, ap, ◌∙◌, true≢false, ltb-true, eqb-true, arith}
 use Rattle.std.specs.List.{AllByRecursion}
-use Rattle.std.specs.Prelude.{All, IfSome, if◌then◌else◌}
+use Rattle.std.specs.Prelude.{All}
 use Rattle.std.proofs.lemmas.Bool.{and_parts, cases_order, or_cases}
 use Rattle.std.proofs.lemmas.Bool.Decides.{Decides-eqb}
 use Rattle.std.proofs.lemmas.List.Elements.{All-head, All-tail}
 use Rattle.pf_shapes.specs.Pair.{IsAscending, IsPairOf, Pair, is_before}
 use Rattle.pf_shapes.specs.declared.scene.TheConstants.{MAX_BODIES}
 use Rattle.pf_manifold.specs.Key.{IsRising}
-use Rattle.pf_cache.specs.Ranked.{element_at}
-use Rattle.pf_cache.specs.Slots.{Slot, pair_rank}
-
--- ---- ranks
+use Rattle.pf_cache.specs.Slots.{pair_rank}
 
 -- a pair that comes before another has the lower rank
 lower : (p q : Pair) → p.b < MAX_BODIES → is_before p q ≡ true → pair_rank p < pair_rank q
@@ -88,20 +85,3 @@ same_test q p hq hp = by (pair_rank q == pair_rank p) refl
     by : (t : Bool) → (pair_rank q == pair_rank p) ≡ t → ((q.a == p.a) && (q.b == p.b)) ≡ t
     by true e = both (same_rank q p hq hp ((Decides-eqb _ _).0 e))
     by false e = neither ((q.a == p.a) && (q.b == p.b)) refl e
-
--- ---- looking up
-
--- the slot of a pair is of this pair
-pub slot_of_pair : (p : Pair) (n : ℕ) (slots : List Slot) → IsPairOf MAX_BODIES p → n ≡ pair_rank p
-    → All (λ s. IsPairOf MAX_BODIES s.pair) slots
-    → IfSome (element_at (λ s. pair_rank s.pair) n slots) (λ s. s.pair ≡ p)
-slot_of_pair p n [] hp same all = tt
-slot_of_pair p n (x ∷ slots) hp same all =
-    by (pair_rank x.pair == n) refl (slot_of_pair p n slots hp same (All-tail (λ s. IsPairOf MAX_BODIES s.pair) x slots all))
-  where
-    by : (t : Bool) → (pair_rank x.pair == n) ≡ t
-        → IfSome (element_at (λ s. pair_rank s.pair) n slots) (λ s. s.pair ≡ p)
-        → IfSome (if t then Some x else element_at (λ s. pair_rank s.pair) n slots) (λ s. s.pair ≡ p)
-    by true here behind =
-        same_rank x.pair p (All-head (λ s. IsPairOf MAX_BODIES s.pair) x slots all) hp ((Decides-eqb _ _).0 here ∙ same)
-    by false other behind = behind

@@ -1,11 +1,9 @@
 -- Contacts from a place on.
-use Rattle.std.proofs.Common.{◌≡◌, ◌∙◌, ℕ, ◌+◌, ◌≤◌, ◌<◌, Option, List, ◌∷◌, length, ap, refl, sym}
-use Rattle.std.specs.Option.{option_map_or}
-use Rattle.std.specs.Prelude.{drop, get_or}
-use Rattle.pf_manifold.specs.Key.{rank}
+use Rattle.std.proofs.Common.{◌≡◌, ℕ, ◌+◌, ◌≤◌, ◌<◌, List, ◌∷◌, length, map}
+use Rattle.std.specs.Prelude.{All, drop, get_or}
+use Rattle.pf_manifold.specs.Key.{IsRising, rank}
 use Rattle.pf_rows.specs.Impulses.{Impulses, no_impulses}
 use Rattle.pf_cache.specs.Contact.{Contact, impulses_at}
-use Rattle.pf_cache.specs.Ranked.{element_at}
 use Rattle.pf_cache.proofs.RankedLists as ranked
 
 abbrev rank_of : Contact → ℕ
@@ -31,15 +29,12 @@ pub found_here : (contacts : List Contact) (place n : ℕ) (d : Contact) → pla
     → impulses_at n (drop place contacts) ≡ (get_or contacts place d).impulses
 found_here = ranked.found_here rank_of impulses_of no_impulses
 
--- the impulses are those of the contact that a look-up finds
-pub impulses_found : (n : ℕ) (contacts : List Contact) (o : Option Contact)
-    → o ≡ element_at (λ (c : Contact). rank c.key) n contacts → impulses_at n contacts ≡ option_map_or impulses_of o no_impulses
-impulses_found n contacts o is =
-    ranked.value_found rank_of impulses_of no_impulses n contacts ∙ ap (λ e. option_map_or impulses_of e no_impulses) (sym is)
+-- and if the first contact is another, there is none
+pub found_other : (contacts : List Contact) (place n : ℕ) (d : Contact) → place < length contacts → IsRising 0 (map rank_of contacts)
+    → All (λ c. n ≤ rank c.key) (drop place contacts) → (rank (get_or contacts place d).key ≡ n → ⊥)
+    → impulses_at n (drop place contacts) ≡ no_impulses
+found_other = ranked.found_other rank_of impulses_of no_impulses
 
--- where look-ups find the same contact, the impulses are the same
-pub same_impulses : (n : ℕ) (contacts others : List Contact)
-    → element_at (λ (c : Contact). rank c.key) n contacts ≡ element_at (λ (c : Contact). rank c.key) n others
-    → impulses_at n contacts ≡ impulses_at n others
-same_impulses n contacts others same =
-    impulses_found n contacts (element_at rank_of n others) (sym same) ∙ sym (impulses_found n others (element_at rank_of n others) refl)
+-- after the last contact there is none
+pub found_nowhere : (contacts : List Contact) (place n : ℕ) → length contacts ≤ place → impulses_at n (drop place contacts) ≡ no_impulses
+found_nowhere = ranked.found_nowhere rank_of impulses_of no_impulses

@@ -1,13 +1,10 @@
--- Elements in the order of their ranks, read from a place on. Contacts, rows and spans are such
--- elements.
-use Rattle.std.proofs.Common.{◌≡◌, ◌≢◌, ℕ, zero, suc, ◌+◌, ◌≤◌, ◌<◌, ◌==◌, Bool, true, false, Some, List, [], ◌∷◌, length, map, set, refl, sym, ap, ap₂, subst, true≢false, arith}
+-- Elements in the order of their ranks, read from a place on: contacts, rows and slots.
+use Rattle.std.proofs.Common.{◌≡◌, ◌≢◌, ℕ, zero, suc, ◌+◌, ◌≤◌, ◌<◌, ◌==◌, Bool, true, false, List, [], ◌∷◌, length, map, set, refl, sym, ap, ap₂, subst, true≢false, arith}
 use Rattle.std.proofs.lemmas.Bool.Decides.{Decides-eqb}
 use Rattle.std.proofs.lemmas.List.{drop_more, drop_all}
 use Rattle.std.proofs.lemmas.List.Elements.{All-nil, All-cons, All-head}
 use Rattle.std.specs.Prelude.{All, drop, get_or, if◌then◌else◌}
-use Rattle.std.specs.Option.{option_map_or}
 use Rattle.pf_manifold.specs.Key.{IsRising}
-use Rattle.pf_cache.specs.Ranked.{element_at}
 use Rattle.pf_manifold.proofs.Rising.{rising-weaken, rising-all, rising-drop}
 
 -- elements with their ranks and their values
@@ -16,16 +13,6 @@ module _ {X V : Type 0} (ranked : X → ℕ) (value : X → V) where
   abbrev pub value_or : V → ℕ → List X → V
   value_or v n [] = v
   value_or v n (x ∷ xs) = if ranked x == n then value x else value_or v n xs
-
-  -- it is that of the element which a look-up finds
-  pub value_found : (v : V) (n : ℕ) (xs : List X) → value_or v n xs ≡ option_map_or value (element_at ranked n xs) v
-  value_found v n [] = refl
-  value_found v n (x ∷ xs) = by (ranked x == n) (value_found v n xs)
-    where
-      by : (t : Bool) → value_or v n xs ≡ option_map_or value (element_at ranked n xs) v
-          → (if t then value x else value_or v n xs) ≡ option_map_or value (if t then Some x else element_at ranked n xs) v
-      by true rest = refl
-      by false rest = rest
 
   -- an element of another rank has no part
   pub other_rank : (v : V) (n : ℕ) (x : X) (xs : List X) → ranked x < n → value_or v n (x ∷ xs) ≡ value_or v n xs

@@ -1,7 +1,7 @@
 -- Contacts with noted impulses, and the contacts before a change.
-use Rattle.std.proofs.Common.{◌≡◌, ◌≢◌, ◌∙◌, ℕ, ◌+◌, ◌≤◌, ◌<◌, ◌==◌, Bool, true, false, ◌||◌, List, [], ◌∷◌, ◌++◌, append-nil, drop, length, map, set, take, take-append-drop, take_all, refl, sym, ap, ap₂, subst, true≢false, arith}
+use Rattle.std.proofs.Common.{◌≡◌, ◌≢◌, ◌∙◌, ℕ, ◌<◌, ◌==◌, Bool, true, false, ◌||◌, List, [], ◌∷◌, ◌++◌, drop, length, map, set, refl, sym, ap, ap₂, true≢false}
 use Rattle.std.proofs.lemmas.Bool.Decides.{Decides-eqb}
-use Rattle.std.proofs.lemmas.List.{drop_all, get_or_default, map-append, map-id, set-get_or}
+use Rattle.std.proofs.lemmas.List.{get_or_default, map-id, set-get_or}
 use Rattle.std.proofs.lemmas.List.Elements.{All-nil, All-cons, All-drop, All-head, All-tail, All-weaker}
 use Rattle.std.proofs.lemmas.List.Folds.{list_any-append}
 use Rattle.std.proofs.lemmas.Simd.{map-map}
@@ -10,14 +10,12 @@ use Rattle.pf_manifold.specs.Key.{IsKey, Key, rank}
 use Rattle.pf_manifold.proofs.Rising.{rising-drop}
 use Rattle.pf_rows.specs.Impulses.{Impulses}
 use Rattle.pf_rows.specs.Row.{Row, impulses_or}
-use Rattle.pf_cache.specs.Contact.{AreContacts, AreKeys, Contact, contact_of_key, contacts_of_keys, no_contact}
+use Rattle.pf_cache.specs.Contact.{AreContacts, Contact, no_contact}
 use Rattle.pf_cache.specs.ContactRows.{IsRowAt, with_rows}
 use Rattle.pf_cache.specs.ContactsChange.{ContactsChange, contact_of_row, contacts_before, has_rank, may_change, noted_or, with_noted}
 use Rattle.pf_cache.proofs.FoundRows.{row_rank}
 use Rattle.pf_cache.proofs.RankedLists as ranked
-use Rattle.pf_cache.proofs.Runs.{HaveKeys, run_done}
 use Rattle.pf_cache.proofs.Stored.{with_impulses_are_contacts}
-use Rattle.pf_cache.proofs.Walk.{SameFrom}
 
 abbrev rank_of : Contact → ℕ
 rank_of c = rank c.key
@@ -255,41 +253,3 @@ rest_are_contacts k contacts order = record {
   rising = rising-drop rank_of k contacts order.rising;
   keys = All-drop (λ c. IsKey c.key) k contacts order.keys;
 }
-
-pub rest_are_keys : (k : ℕ) (keys : List Key) → AreKeys keys → AreKeys (drop k keys)
-rest_are_keys k keys order = record {
-  rising = rising-drop rank k keys order.rising;
-  each = All-drop IsKey k keys order.each;
-}
-
--- contacts from a place on that have what all have
-same_kept : (old : List Contact) (place : ℕ) (keys : List Key) → All (SameFrom old place) keys
-    → map (contact_of_key (drop place old)) keys ≡ map (contact_of_key old) keys
-same_kept old place [] same = refl
-same_kept old place (k ∷ keys) same =
-    ap₂ (λ x xs. x ∷ xs) (ap (λ p. record { key = k; impulses = p }) (All-head (SameFrom old place) k keys same))
-    (same_kept old place keys (All-tail (SameFrom old place) k keys same))
-
--- the first contacts that have the first keys stay, and after them come the next ones of the others
-pub next_from : (old : List Contact) (keys : List Key) (r : ℕ) → AreKeys keys → r ≤ length old → r ≤ length keys
-    → HaveKeys old keys r → take r old ++ contacts_of_keys (drop r old) (drop r keys) ≡ contacts_of_keys old keys
-unfolding contacts_of_keys
-next_from old keys r order inside within alike =
-    let none : 0 + r ≡ r = omega arith in
-    let run = run_done old keys order.rising 0 0 r [] (omega (arith, inside)) (omega (arith, within)) alike (λ k d w. refl) refl in
-    let kept = subst (λ n. (take r old ≡ map (contact_of_key old) (take n keys)) × All (SameFrom old n) (drop n keys)) none run in
-    ap₂ (λ xs ys. xs ++ ys) kept.0 (same_kept old r (drop r keys) kept.1)
-    ∙ sym (map-append (contact_of_key old) (take r keys) (drop r keys))
-    ∙ ap (map (contact_of_key old)) (take-append-drop r keys)
-
--- so contacts that have all keys stay as they are
-none_next : (first others : List Contact) → first ++ contacts_of_keys others [] ≡ first
-unfolding contacts_of_keys
-none_next first others = append-nil first
-
-pub next_same : (old : List Contact) (keys : List Key) (r : ℕ) → AreKeys keys → r ≡ length old → r ≡ length keys
-    → HaveKeys old keys r → contacts_of_keys old keys ≡ old
-next_same old keys r order all_old all_keys alike =
-    sym (next_from old keys r order (omega (arith, all_old)) (omega (arith, all_keys)) alike)
-    ∙ ap (λ ks. take r old ++ contacts_of_keys (drop r old) ks) (drop_all r keys (omega (arith, all_keys)))
-    ∙ none_next (take r old) (drop r old) ∙ take_all r old (omega (arith, all_old))

@@ -27,7 +27,7 @@ use Rattle.pf_manifold.specs.Touches.{Touch, touch_of, touches_between}
 use Rattle.pf_cache.specs.Live.{HasOwnTouches}
 use Rattle.pf_cache.specs.Ranked.{element_at}
 use Rattle.pf_cache.specs.Manifolds.{Manifolds, computed_count, is_reusable, is_unmoved, lists_pair, manifolds_of, placed_shapes, points_of_pair}
-use Rattle.pf_cache.specs.Slots.{AreSlots, HasStayed, IsReusedSlot, Slot, are_unmoved, carried_slot, is_of_pair, is_stale, overlapping, pair_rank, slot_of, slot_touches, touches_if, unmoved_flags}
+use Rattle.pf_cache.specs.Slots.{AreSlots, IsFreshUnlessLive, HasSoundPoints, Slot, are_unmoved, carried_slot, is_of_pair, needs_points, overlapping, pair_rank, slot_of, slot_touches, touches_if, unmoved_flags}
 use Rattle.pf_cache.proofs.Bounded.{length-placed_shapes}
 use Rattle.pf_cache.proofs.Filling.{own}
 use Rattle.pf_cache.proofs.PairRanks.{pairs_rise, same_rank, same_test}
@@ -231,7 +231,7 @@ module _ (enlarged old : List Bounds) (stood : List PlacedShape) (kept : List Sl
 
     -- the points of unmoved bodies are those of now
     pub reused : (shapes : List PlacedShape) (unmoved : List Bool) → unmoved ≡ unmoved_flags stood shapes
-        → IsReusedSlot shapes unmoved (carried_slot kept p)
+        → HasSoundPoints shapes unmoved (carried_slot kept p)
     reused shapes unmoved flags still there =
         let have = subst (λ ss. is_some (carried_slot ss p).touches ≡ true → (carried_slot ss p).touches ≡ Some (points_of_pair stood p)) (sym are.each)
         (carried_points old stood p (pairs enlarged) in_range candidates_in_range) in
@@ -246,7 +246,7 @@ module _ (enlarged old : List Bounds) (stood : List PlacedShape) (kept : List Sl
         → ((k : ℕ) → k < count → get_or flags k false ≡ false → (before ≡ count) × (has_body moved k ≡ false))
         → (length stood ≡ count → (k : ℕ) → k < count → has_body moved k ≡ false
         → (slice_get stood k ≡ slice_get shapes k) × (slice_get old k ≡ slice_get bounds k))
-        → HasStayed bounds unmoved flags (carried_slot kept p)
+        → IsFreshUnlessLive bounds unmoved flags (carried_slot kept p)
     stayed bounds shapes unmoved flags before count moved below flags_are counted as_many right stay other =
         let parts = or_parts (get_or flags p.a false) (get_or flags p.b false) other in
         let low : p.a < count = omega (arith, in_range.0, below) in
@@ -265,13 +265,13 @@ module _ (enlarged old : List Bounds) (stood : List PlacedShape) (kept : List Sl
   -- as many slots have to be computed as pairs cannot reuse kept points
   pub counted_stale : (bounds : List Bounds) (shapes : List PlacedShape) (unmoved : List Bool) (candidates : List Pair)
       → All (IsPairOf MAX_BODIES) candidates → unmoved ≡ unmoved_flags stood shapes
-      → count_by (is_stale bounds unmoved) (map (carried_slot kept) candidates)
+      → count_by (needs_points bounds unmoved) (map (carried_slot kept) candidates)
       ≡ computed_count (record { shapes = stood; bounds = old; pairs = overlapping kept }) shapes (filter (pair_may_touch bounds) candidates)
   counted_stale bounds shapes unmoved candidates in_range flags =
       let m : Manifolds = record { shapes = stood; bounds = old; pairs = overlapping kept } in
       let u : Pair → Bool = λ p. not (is_reusable m shapes p) in
-      sym (length-filter (is_stale bounds unmoved) (map (carried_slot kept) candidates))
-      ∙ count_same (is_stale bounds unmoved) (carried_slot kept) (pair_may_touch bounds) u candidates (λ k e below.
+      sym (length-filter (needs_points bounds unmoved) (map (carried_slot kept) candidates))
+      ∙ count_same (needs_points bounds unmoved) (carried_slot kept) (pair_may_touch bounds) u candidates (λ k e below.
       let p = get_or candidates k e in
       let listed_is = carries p (in_range k e below) in
       let still_is : are_unmoved unmoved p ≡ (is_unmoved stood shapes p.a && is_unmoved stood shapes p.b) =

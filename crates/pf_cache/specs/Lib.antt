@@ -5,10 +5,12 @@ pub mod Same
 pub mod SameLaws
 pub mod ContactRows
 pub mod ContactsChange
+pub mod KeyEdits
 pub mod Meter
 pub mod Manifolds
 pub mod PlacedBodies
 pub mod Slots
 pub mod Points
 pub mod Live
+pub mod Stale
 pub mod Laws

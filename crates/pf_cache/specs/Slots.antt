@@ -1,6 +1,6 @@
 -- Slots: the pairs of bodies whose enlarged bounds overlap, each with its contact points, as the
 -- contact list of Box2D 2.x's b2ContactManager.
-use Rattle.std.specs.Prelude.{◌≡◌, ◌≤◌, ℕ, ◌==◌, Bool, true, false, not, ◌&&◌, ◌||◌, Option, None, Some, List, [], filter, length, map, get_or, is_some, unwrap_or, if◌then◌else◌}
+use Rattle.std.specs.Prelude.{◌≡◌, ◌≤◌, ℕ, ◌+◌, ◌==◌, Bool, true, false, not, ◌&&◌, ◌||◌, Option, None, Some, List, [], ◌∷◌, filter, length, map, get_or, is_some, unwrap_or, if◌then◌else◌}
 use Rattle.std.specs.List.{flat_map, zip}
 use Rattle.pf_shapes.specs.Bounds.{Bounds}
 use Rattle.pf_shapes.specs.Pair.{Pair}
@@ -13,6 +13,7 @@ use Rattle.pf_manifold.specs.ContactPoint.{ContactPoint}
 use Rattle.pf_manifold.specs.Manifold.{points_of}
 use Rattle.pf_manifold.specs.declared.manifold.Manifold.{Manifold}
 use Rattle.pf_manifold.specs.Touches.{Touch, touch_of}
+use Rattle.pf_cache.specs.declared.slot.SlotPlace.{SlotPlace}
 use Rattle.pf_cache.specs.Ranked.{element_at}
 use Rattle.pf_cache.specs.Manifolds.{points_of_pair, same_placed_shape}
 
@@ -55,7 +56,7 @@ pub record AreSlots
 abbrev pub overlapping : List Slot → List Pair
 overlapping slots = map (λ s. s.pair) (filter (λ s. is_some s.touches) slots)
 
--- pairs are in the order of their ranks: by the first body, then the second
+-- the rank of a pair: ranks ascend by the first body, then by the second
 abbrev pub pair_rank : Pair → ℕ
 pair_rank p = rank (record { a = p.a; b = p.b; feature = 0 })
 
@@ -85,14 +86,45 @@ has_flagged_body flags p = get_or flags p.a false || get_or flags p.b false
 
 -- the contact points of a slot have to be computed: its bounds overlap, and they did not before or
 -- a body moved
-abbrev pub is_stale : List Bounds → List Bool → Slot → Bool
-is_stale bounds unmoved s =
+abbrev pub needs_points : List Bounds → List Bool → Slot → Bool
+needs_points bounds unmoved s =
     pair_may_touch bounds s.pair && not (is_some s.touches && are_unmoved unmoved s.pair)
 
--- a slot, without contact points where its bounds are apart
-abbrev pub emptied_slot : List Bounds → Slot → Slot
-emptied_slot bounds s =
-    record s { touches = if pair_may_touch bounds s.pair then s.touches else None }
+-- the pairs whose contact points have to be computed
+abbrev pub pairs_to_compute : List Bounds → List Bool → List Slot → List Pair
+pairs_to_compute bounds unmoved slots =
+    map (λ s. s.pair) (filter (needs_points bounds unmoved) slots)
+
+-- a slot is not up to date: where its bounds overlap, its contact points have to be computed; where
+-- they are apart, it has some still
+abbrev pub is_stale_if : Bool → List Bool → Slot → Bool
+is_stale_if overlap unmoved s =
+    if overlap then not (is_some s.touches && are_unmoved unmoved s.pair) else is_some s.touches
+
+-- a slot of bodies with these bounds is not up to date
+abbrev pub is_stale : List Bounds → List Bool → Slot → Bool
+is_stale bounds unmoved s = is_stale_if (pair_may_touch bounds s.pair) unmoved s
+
+-- a slot, brought up to date if it has to be
+abbrev pub refreshed_slot : List Bounds → List Bool → List PlacedShape → Slot → Slot
+refreshed_slot bounds unmoved shapes s =
+    if is_stale bounds unmoved s then slot_of bounds shapes s.pair else s
+
+-- the places of the slots that pass a test; the first slot is at `place`, and `skipped` contact
+-- points lie between it and the one before it that passed
+abbrev pub slot_places : (Slot → Bool) → ℕ → ℕ → List Slot → List SlotPlace
+slot_places test place skipped [] = []
+slot_places test place skipped (s ∷ slots) =
+    if test s
+    then record { place = place; skipped = skipped } ∷ slot_places test (place + 1) 0 slots
+    else slot_places test (place + 1) (skipped + length (slot_touches s)) slots
+
+-- the slots that are not up to date: their places, and the pairs of those to be computed
+pub record AreStale
+    (bounds : List Bounds) (unmoved : List Bool) (places : List SlotPlace) (pairs : List Pair)
+    (slots : List Slot) : Type 0 where
+  pub listed : places ≡ slot_places (is_stale bounds unmoved) 0 0 slots
+  pub computed : pairs ≡ pairs_to_compute bounds unmoved slots
 
 -- a contact point is of this pair
 abbrev pub is_of_pair : Pair → Touch → Bool
@@ -106,19 +138,15 @@ no_slot = record { pair = record { a = 0; b = 0 }; touches = None }
 abbrev pub slot_at : List Slot → ℕ → Slot
 slot_at slots k = get_or slots k no_slot
 
--- a slot with the contact points of its pair
-abbrev pub filled_slot : List PlacedShape → Slot → Slot
-filled_slot shapes s = record s { touches = Some (points_of_pair shapes s.pair) }
-
 -- a slot with no watched body: it has contact points exactly where the bounds overlap, and both
 -- bodies are unmoved
-abbrev pub HasStayed : List Bounds → List Bool → List Bool → Slot → Type 0
-HasStayed bounds unmoved watched s =
+abbrev pub IsFreshUnlessLive : List Bounds → List Bool → List Bool → Slot → Type 0
+IsFreshUnlessLive bounds unmoved watched s =
     has_flagged_body watched s.pair ≡ false
     → (is_some s.touches ≡ pair_may_touch bounds s.pair) × (are_unmoved unmoved s.pair ≡ true)
 
 -- a slot whose contact points, if it has some and its bodies are unmoved, are those of these shapes
-abbrev pub IsReusedSlot : List PlacedShape → List Bool → Slot → Type 0
-IsReusedSlot shapes unmoved s =
+abbrev pub HasSoundPoints : List PlacedShape → List Bool → Slot → Type 0
+HasSoundPoints shapes unmoved s =
     are_unmoved unmoved s.pair ≡ true → is_some s.touches ≡ true
     → s.touches ≡ Some (points_of_pair shapes s.pair)

@@ -22,3 +22,17 @@ impl Model for Contact {
 
     ghost inverse = { λ c. record { key = c.key; impulses = c.impulses } };
 }
+
+impl Contact {
+    ghost use Rattle.std.specs.Prelude.{◌≡◌};
+    ghost use Rattle.pf_manifold.specs.Key.{IsKey, rank};
+
+    /// The rank of its key. Contacts are in the order of their ranks.
+    #[inline]
+    pub(crate) fn rank(&self) -> usize
+        requires { IsKey self.now.key }
+        ensures { result ≡ rank self.now.key }
+    {
+        self.key.rank()
+    }
+}

@@ -1,16 +1,18 @@
 //! The contacts of a world, in the order of their keys.
 
-ghost use Rattle.std.specs.Prelude.{◌≡◌, ◌↔◌, ◌+◌, ◌≤◌, ◌<◌, ◌++◌, ℕ, [], All, IfOk, IsOk, IsTrue, OnOk, drop, length, map, take, vec_capacity, vec_len};
-ghost use Rattle.pf_manifold.specs.Key.{IsKey, key_of, rank};
-ghost use Rattle.pf_cache.specs.Contact.{AreContacts, AreKeys, contacts_of_keys, impulses_at};
+ghost use Rattle.std.specs.Prelude.{◌≡◌, ◌+◌, ◌<◌, ◌++◌, ℕ, [], All, IfOk, IsOk, OnOk, map, take};
+ghost use Rattle.pf_manifold.specs.Key.{key_of, rank};
+ghost use Rattle.pf_cache.specs.Contact.{AreContacts, AreKeys, contacts_of_keys};
 ghost use Rattle.pf_cache.specs.ContactRows.{AreRowsAt, IsRowAt, with_rows};
 ghost use Rattle.pf_cache.specs.ContactsChange.{contact_of_row};
+ghost use Rattle.pf_cache.specs.KeyEdits.{keys_after, spanned_count};
 
 use crate::contact::Contact;
 use crate::contacts_change::{ContactsChange, NotedContact, restore_all};
-use crate::ranked::{Ranked, find_from};
+use crate::key_edits::{KeyEdit, KeyEdits};
+use crate::next_contacts::{add_all, add_edited, dropped_count};
 use pf_manifold::{Key, Touch};
-use pf_rows::{Impulses, Row};
+use pf_rows::Row;
 use std::alloc::{AllocError, Global};
 use std::marker::Model;
 use std::mem;
@@ -33,37 +35,6 @@ impl Model for Contacts {
     ghost invariant = { λ c. AreContacts c.list.items };
 }
 
-impl Ranked for Contact {
-    ghost use Rattle.pf_manifold.specs.Key.{IsKey, rank};
-
-    ghost is_in_range = { λ c. IsKey c.key };
-
-    ghost rank = { λ c. rank c.key };
-
-    #[inline]
-    fn rank(&self) -> usize {
-        self.key.rank()
-    }
-}
-
-/// The accumulated impulses of the contact of this key from `start` on, or none; and a place from
-/// which look-ups of higher ranks find what they find from `start`.
-fn impulses_of(contacts: &[Contact], start: usize, key: &Key) -> (Impulses, usize)
-    requires start { start ≤ length contacts.now }
-    requires contacts { AreContacts contacts.now }
-    requires key { IsKey key.now }
-    ensures impulses { result.0 ≡ impulses_at (rank key.now) (drop start contacts.now) }
-    ensures within { result.1 ≤ length contacts.now }
-    ensures later { (n : ℕ) → rank key.now < n
-        → impulses_at n (drop result.1 contacts.now) ≡ impulses_at n (drop start contacts.now) }
-{
-    let (found, after) = find_from(contacts, start, key.rank());
-    match found {
-        Some(contact) => (contact.impulses, after),
-        None => (Impulses::NONE, after),
-    }
-}
-
 /// The keys of these points. Takes no memory where there are none.
 fn keys_of_points(alloc: Global, touches: &[Touch]) -> Result<Vec<Key>, AllocError>
     ensures value { IfOk result (λ keys. keys.items ≡ map key_of touches.now) }
@@ -74,80 +45,6 @@ fn keys_of_points(alloc: Global, touches: &[Touch]) -> Result<Vec<Key>, AllocErr
         keys.push_reserved(Key::of(touch));
     }
     Ok(keys)
-}
-
-/// Whether a contact has this key.
-#[inline]
-fn has_key(contact: &Contact, key: &Key) -> bool
-    ensures { IsTrue result ↔ (contact.now.key ≡ key.now) }
-{
-    contact.key == *key
-}
-
-/// How many of the first contacts have the first keys, one after the other. No clause says that it
-/// does not stop earlier.
-#[inline]
-fn same_keys(contacts: &[Contact], keys: &[Key]) -> usize
-    ensures contacts { result ≤ length contacts.now }
-    ensures keys { result ≤ length keys.now }
-    ensures same { map (λ c. c.key) (take result contacts.now) ≡ take result keys.now }
-{
-    let end = contacts.len().min(keys.len());
-    let mut count = 0;
-    while count < end {
-        if !has_key(&contacts[count], &keys[count]) {
-            break;
-        }
-        count += 1;
-    }
-    count
-}
-
-/// Whether there are so many contacts and so many keys.
-#[inline]
-fn is_count_of_both(count: usize, contacts: &[Contact], keys: &[Key]) -> bool
-    ensures { IsTrue result
-        ↔ ((count ≡ length contacts.now) × (count ≡ length keys.now)) }
-{
-    count == contacts.len() && count == keys.len()
-}
-
-/// Adds these contacts. There is room for them.
-fn add_all(list: &mut Vec<Contact>, contacts: &[Contact])
-    requires { vec_len list.old + length contacts.now ≤ vec_capacity list.old }
-    ensures items { list.new.items ≡ list.old.items ++ contacts.now }
-    ensures len { vec_len list.new ≡ vec_len list.old + length contacts.now }
-    ensures capacity { vec_capacity list.old ≤ vec_capacity list.new }
-{
-    match list.extend_from_slice(contacts) {
-        Ok(()) => {}
-        Err(_) => unreachable!(),
-    }
-}
-
-/// Adds the next contacts of these keys, after these old ones. There is room for them. Contacts
-/// that follow each other as their keys do are copied together.
-fn add_next(list: &mut Vec<Contact>, old: &[Contact], keys: &[Key])
-    requires old { AreContacts old.now }
-    requires keys { AreKeys keys.now }
-    requires room { vec_len list.old + length keys.now ≤ vec_capacity list.old }
-    ensures { list.new.items ≡ list.old.items ++ contacts_of_keys old.now keys.now }
-{
-    let mut place = 0;
-    let mut done = 0;
-    while done < keys.len() {
-        let run = same_keys(&old[place..], &keys[done..]);
-        add_all(list, &old[place..place + run]);
-        place += run;
-        done += run;
-        if done < keys.len() {
-            let key = keys[done];
-            let (impulses, after) = impulses_of(old, place, &key);
-            place = after;
-            list.push_reserved(Contact { key, impulses });
-            done += 1;
-        }
-    }
 }
 
 /// Notes the contacts of rows, and after an error those of the first rows.
@@ -189,11 +86,12 @@ fn store_at(contacts: &mut [Contact], rows: &[Row])
 }
 
 impl Contacts {
-    ghost use Rattle.std.specs.Prelude.{◌≡◌, ℕ, [], All, IfOk, IsOk, IsTrue, OnErr, OnOk, false, true};
+    ghost use Rattle.std.specs.Prelude.{◌≡◌, ◌≤◌, ℕ, [], All, IfOk, IsOk, IsTrue, OnErr, OnOk, false, length, map, sum_by, true};
     ghost use Rattle.pf_manifold.specs.Key.{AreTouches, key_of, rank};
     ghost use Rattle.pf_cache.specs.Contact.{AreKeys, contacts_of_keys, next_contacts};
     ghost use Rattle.pf_cache.specs.ContactRows.{AreRowsAt, with_rows};
     ghost use Rattle.pf_cache.specs.ContactsChange.{contacts_before, may_change, no_contacts_change};
+    ghost use Rattle.pf_cache.specs.KeyEdits.{AreEditsOf, edited_keys, keys_after, spanned_count};
     ghost use Rattle.pf_cache.specs.Same.{same_contacts};
 
     /// No contacts. Takes no memory.
@@ -214,7 +112,7 @@ impl Contacts {
     }
 
     /// As [`Contacts::set_keys`], with the keys of these points, which are in the order of their
-    /// keys.
+    /// keys. All contacts are made anew, with `may_stay` too.
     pub fn update(
         &mut self,
         touches: &[Touch],
@@ -231,63 +129,91 @@ impl Contacts {
     {
         change.clear();
         let keys = keys_of_points(*self.list.allocator(), touches)?;
-        self.set_keys(&keys, may_stay, change)
+        self.set_keys(&keys, change)
     }
 
-    /// Makes of these contacts those of the keys, as Box2D-Lite's `Arbiter::Update`: a key of the
-    /// old contacts keeps its impulses, a new key has none, and a contact with no key here is gone.
-    /// The keys are in their order, each once. `change` then undoes this. With `may_stay`, and if
-    /// the contacts have just these keys, they may stay in place (no clause says that they do), and
-    /// impulses that change have to be noted. Otherwise all contacts are made anew, and `change`
-    /// has those before. An error leaves the contacts as they are, and no change in `change`.
-    #[inline(never)]
-    pub fn set_keys(
-        &mut self,
-        keys: &[Key],
-        may_stay: bool,
-        change: &mut ContactsChange,
-    ) -> Result<(), AllocError>
+    /// Replaces the contacts by those of these keys, which are in their order, each once, as
+    /// Box2D-Lite's `Arbiter::Update`: a key of the contacts before keeps its impulses, a new key
+    /// has none, and a contact whose key is not there is dropped. All contacts are made anew, and
+    /// `change`, which then undoes this, has those before. An error leaves the contacts as they
+    /// are, and no change in `change`.
+    pub fn set_keys(&mut self, keys: &[Key], change: &mut ContactsChange) -> Result<(), AllocError>
         requires { AreKeys keys.now }
         ensures value { OnOk result (self.new ≡ contacts_of_keys self.old keys.now) }
         ensures before { contacts_before change.new self.new ≡ self.old }
-        ensures anew { OnOk result (may_stay ≡ false → change.new.in_place ≡ false) }
+        ensures anew { OnOk result (change.new.in_place ≡ false) }
         ensures unchanged { OnErr result (self.new ≡ self.old) }
         ensures no_change { OnErr result (change.new ≡ no_contacts_change) }
         ensures no_memory { keys.now ≡ [] → IsOk result }
     {
-        change.clear();
-        let same = same_keys(&self.list, keys);
-        if may_stay && is_count_of_both(same, &self.list, keys) {
-            return Ok(());
-        }
-        change.before.reserve(keys.len())?;
-        change.in_place = false;
-        mem::swap(&mut self.list, &mut change.before);
-        add_all(&mut self.list, &change.before[..same]);
-        add_next(&mut self.list, &change.before[same..], &keys[same..]);
-        Ok(())
+        let all = [KeyEdit {
+            kept: 0,
+            dropped: self.list.len(),
+            added: keys.len(),
+        }];
+        self.make_anew(&all, keys, change)
     }
 
-    /// Keeps these contacts as they are, for a tick whose points have the keys of those before.
-    /// With `may_stay` they stay in place, and impulses that change have to be noted. Otherwise
-    /// `change` has a copy of all of them, as if they were made anew: where the impulses of most
-    /// contacts change, to note them one by one takes longer than to copy all. `change` then undoes
-    /// what changes later. An error leaves no change in `change`.
-    #[inline(never)]
-    pub fn keep(&mut self, may_stay: bool, change: &mut ContactsChange) -> Result<(), AllocError>
-        ensures same { self.new ≡ self.old }
+    /// Replaces the contacts by those of their keys after these edits, which are in their order,
+    /// each once, as [`Contacts::set_keys`] does. `change` then undoes this.
+    ///
+    /// With `may_stay`, and without edits, the contacts stay in place (no clause says that they
+    /// do), and impulses that change have to be noted. Otherwise all contacts are made anew, and
+    /// `change` has those before: where the impulses of most contacts change, to note them one by
+    /// one takes longer than to copy all. An error leaves the contacts as they are, and no change
+    /// in `change`.
+    pub fn edit(
+        &mut self,
+        edits: &KeyEdits,
+        may_stay: bool,
+        change: &mut ContactsChange,
+    ) -> Result<(), AllocError>
+        requires edits { AreEditsOf edits.now (length self.old) }
+        requires keys { AreKeys (edited_keys edits.now (map (λ c. c.key) self.old)) }
+        ensures value { OnOk result (self.new
+            ≡ contacts_of_keys self.old (edited_keys edits.now (map (λ c. c.key) self.old))) }
         ensures before { contacts_before change.new self.new ≡ self.old }
         ensures anew { OnOk result (may_stay ≡ false → change.new.in_place ≡ false) }
+        ensures unchanged { OnErr result (self.new ≡ self.old) }
         ensures no_change { OnErr result (change.new ≡ no_contacts_change) }
-        ensures no_memory { self.old ≡ [] → IsOk result }
+        ensures no_memory { edited_keys edits.now (map (λ c. c.key) self.old) ≡ []
+            → IsOk result }
     {
-        change.clear();
-        if may_stay {
+        if may_stay && edits.edits.is_empty() {
+            change.clear();
             return Ok(());
         }
-        change.before.reserve(self.list.len())?;
+        self.make_anew(&edits.edits, &edits.added, change)
+    }
+
+    /// Makes all contacts anew, of the keys after these edits, which add these keys. `change` has
+    /// the contacts before. An error leaves the contacts as they are, and no change in `change`.
+    #[inline(never)]
+    fn make_anew(
+        &mut self,
+        edits: &[KeyEdit],
+        added: &[Key],
+        change: &mut ContactsChange,
+    ) -> Result<(), AllocError>
+        requires within { spanned_count edits.now ≤ length self.old }
+        requires added { sum_by (λ e. e.added) edits.now ≡ length added.now }
+        requires keys { AreKeys (keys_after edits.now added.now (map (λ c. c.key) self.old)) }
+        ensures value { OnOk result (self.new ≡ contacts_of_keys self.old
+            (keys_after edits.now added.now (map (λ c. c.key) self.old))) }
+        ensures before { contacts_before change.new self.new ≡ self.old }
+        ensures anew { OnOk result (change.new.in_place ≡ false) }
+        ensures unchanged { OnErr result (self.new ≡ self.old) }
+        ensures no_change { OnErr result (change.new ≡ no_contacts_change) }
+        ensures no_memory { keys_after edits.now added.now (map (λ c. c.key) self.old) ≡ []
+            → IsOk result }
+    {
+        change.clear();
+        let old_count = self.list.len();
+        let count = old_count - dropped_count(edits, old_count) + added.len();
+        change.before.reserve(count)?;
         change.in_place = false;
-        add_all(&mut change.before, &self.list);
+        mem::swap(&mut self.list, &mut change.before);
+        add_edited(&mut self.list, &change.before, edits, added);
         Ok(())
     }
 

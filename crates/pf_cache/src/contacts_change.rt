@@ -6,7 +6,6 @@ ghost use Rattle.pf_cache.specs.Contact.{AreContacts, no_contact};
 ghost use Rattle.pf_cache.specs.ContactsChange.{with_noted};
 
 use crate::contact::Contact;
-use crate::ranked::Ranked;
 use std::alloc::Global;
 use std::marker::Model;
 

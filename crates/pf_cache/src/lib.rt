@@ -3,21 +3,25 @@
 //! the meter of the work done.
 #![tactic(auto)]
 
+mod carrying;
 mod contact;
 mod contacts;
 mod contacts_change;
 mod kept_shape;
+mod key_edits;
 pub mod laws;
 mod live;
 mod manifolds;
 mod meter;
+mod next_contacts;
 mod placed_bodies;
-mod ranked;
 mod slot;
 mod slots;
+mod stale;
 
 pub use contact::Contact;
 pub use contacts::Contacts;
 pub use contacts_change::ContactsChange;
+pub use key_edits::KeyEdits;
 pub use manifolds::{Collisions, FoundCollisions, Manifolds};
 pub use meter::Meter;

@@ -1,30 +1,21 @@
-//! The slots whose contact points a tick brings up to date: those of bodies that may have moved,
-//! and of some that moved not long ago. The others keep their points.
+//! The slots that a tick looks at: those of bodies that may have moved, and of some that may have
+//! moved in an earlier tick. The others keep their contact points.
 
 ghost use Rattle.std.specs.Prelude.{◌≡◌, ◌<◌, ℕ, All, IfOk, IsTrue, false, get_or, length};
 ghost use Rattle.pf_shapes.specs.Pair.{IsPairOf};
 ghost use Rattle.pf_broad.specs.Partners.{has_body};
-ghost use Rattle.pf_cache.specs.Live.{AreLive, AreWatched, live_slots};
+ghost use Rattle.pf_cache.specs.Live.{AreLive, AreWatched};
 
-use crate::slot::Slot;
+use crate::slot::{Slot, SlotPlace};
 use std::alloc::{AllocError, Global};
-
-/// A slot with a watched body.
-#[derive(Clone, Copy, Debug)]
-pub(crate) struct LiveSlot {
-    /// Its place among all slots.
-    pub place: usize,
-    /// How many contact points stand between those of the live slot before it and its own.
-    pub skipped: usize,
-}
 
 /// The bodies that are watched, and the slots that have one of them.
 #[derive(Debug, Drop)]
 pub(crate) struct Live {
     /// For each body whether it is watched.
     pub watched: Vec<bool>,
-    /// The slots with a watched body, in the order of all slots.
-    pub slots: Vec<LiveSlot>,
+    /// The places of the slots with a watched body, in the order of all slots.
+    pub places: Vec<SlotPlace>,
     /// How many bodies may have moved in the tick in which these were chosen.
     pub chosen: usize,
 }
@@ -36,18 +27,17 @@ impl Live {
     /// No body is watched. Takes no memory.
     pub(crate) fn new(alloc: Global) -> Live
         ensures watched { result.watched.items ≡ [] }
-        ensures slots { result.slots.items ≡ [] }
+        ensures slots { result.places.items ≡ [] }
     {
         Live {
             watched: Vec::new(alloc),
-            slots: Vec::new(alloc),
+            places: Vec::new(alloc),
             chosen: 0,
         }
     }
 
-    /// Whether these serve a tick in which the bodies of `moved`, of so many, may have moved: all
-    /// of them are watched, and they are at least half as many as when the watched ones were
-    /// chosen.
+    /// Whether these serve a tick of `count` bodies in which those of `moved` may have moved: all of
+    /// them are watched, and they are at least half as many as when the watched ones were chosen.
     fn serves(&self, count: usize, moved: &[usize]) -> bool
         requires { All (λ number. number < count) moved.now }
         ensures count { IsTrue result → length self.now.watched.items ≡ count }
@@ -66,18 +56,22 @@ impl Live {
     }
 }
 
-/// The slots with a watched body.
+/// The places of the slots with a watched body.
 #[inline(never)]
-fn live_slots(alloc: Global, watched: &[bool], slots: &[Slot]) -> Result<Vec<LiveSlot>, AllocError>
+fn live_places(
+    alloc: Global,
+    watched: &[bool],
+    slots: &[Slot],
+) -> Result<Vec<SlotPlace>, AllocError>
     requires { All (λ s. IsPairOf (length watched.now) s.pair) slots.now }
-    ensures { IfOk result (λ live. live.items ≡ live_slots watched.now 0 0 slots.now) }
+    ensures { IfOk result (λ live. AreLive watched.now live.items slots.now) }
 {
     let mut live = Vec::new(alloc);
     let mut skipped = 0usize;
     for (place, slot) in slots.iter().enumerate() {
         let pair = *slot.pair();
         if watched[pair.a] | watched[pair.b] {
-            live.push(LiveSlot { place, skipped })?;
+            live.push(SlotPlace { place, skipped })?;
             skipped = 0;
         } else {
             skipped = skipped.checked_add(slot.count()).ok_or(AllocError)?;
@@ -121,8 +115,8 @@ pub(crate) fn live_of(
 ) -> Result<Live, AllocError>
     requires moved { All (λ number. number < count) moved.now }
     requires pairs { All (λ s. IsPairOf count s.pair) slots.now }
-    requires kept { IsTrue same → AreLive kept.watched.items kept.slots.items slots.now }
-    ensures live { IfOk result (λ live. AreLive live.watched.items live.slots.items slots.now) }
+    requires kept { IsTrue same → AreLive kept.watched.items kept.places.items slots.now }
+    ensures live { IfOk result (λ live. AreLive live.watched.items live.places.items slots.now) }
     ensures others { IfOk result (λ live. (k : ℕ) → k < count
         → get_or live.watched.items k false ≡ false
         → (before ≡ count) × (has_body moved.now k ≡ false)) }
@@ -131,10 +125,10 @@ pub(crate) fn live_of(
         return Ok(kept);
     }
     let watched = moved_flags(alloc, before, count, moved)?;
-    let slots = live_slots(alloc, &watched, slots)?;
+    let places = live_places(alloc, &watched, slots)?;
     Ok(Live {
         watched,
-        slots,
+        places,
         chosen: moved.len(),
     })
 }

@@ -1,30 +1,39 @@
 //! A pair of bodies whose enlarged bounds overlap, with its contact points.
 
-ghost use Rattle.std.specs.Prelude.{◌≡◌, ◌≤◌, ◌<◌, ◌+◌, ◌++◌, ◌^◌, IsTrue, OnOk, length, map};
+ghost use Rattle.std.specs.Prelude.{◌≡◌, ◌↔◌, ◌<◌, ◌+◌, ◌++◌, ◌^◌, IsTrue, OnOk, length, map};
 ghost use Rattle.std.specs.List.{enumerate_from};
 ghost use Rattle.pf_shapes.specs.Pair.{IsPairOf};
 ghost use Rattle.pf_shapes.specs.declared.scene.TheConstants.{MAX_BODIES};
+ghost use Rattle.pf_broad.specs.Pairs.{pair_may_touch};
 ghost use Rattle.pf_manifold.specs.Key.{key_of};
-ghost use Rattle.pf_manifold.specs.Manifold.{points_of};
 ghost use Rattle.pf_manifold.specs.Touches.{touch_of};
-ghost use Rattle.pf_cache.specs.Manifolds.{points_of_pair};
-ghost use Rattle.pf_cache.specs.Slots.{pair_rank, points_or_none};
+ghost use Rattle.pf_cache.specs.Slots.{points_or_none};
 
-use crate::kept_shape::{KeptShape, are_unmoved, manifold_of_pair};
-use crate::ranked::Ranked;
+use crate::kept_shape::are_unmoved;
+use crate::key_edits::{KeyEdit, KeyEdits};
 use pf_broad::may_touch;
 use pf_manifold::{ContactPoint, Key, Manifold, Touch, touch_of};
 use pf_shapes::{Bounds, MAX_BODIES, Pair};
 use std::alloc::AllocError;
 use std::marker::Model;
 
-/// A pair of bodies whose enlarged bounds overlap, with the contact points that it had in the last
-/// tick, as a `b2Contact` of Box2D 2.x.
+/// A pair of bodies whose enlarged bounds overlap, with its contact points, as a `b2Contact` of
+/// Box2D 2.x.
 #[derive(Debug, Drop)]
 pub(crate) struct Slot {
     pair: Pair,
     /// The contact points; none are kept where the bounds were apart.
     points: Option<Manifold>,
+}
+
+/// A slot's place among all slots.
+#[derive(Clone, Copy, Debug)]
+pub(crate) struct SlotPlace {
+    /// Its place.
+    pub place: usize,
+    /// How many contact points stand before its own, from those of the slot that is listed before
+    /// it on.
+    pub skipped: usize,
 }
 
 impl Model for Slot {
@@ -35,56 +44,47 @@ impl Model for Slot {
     ghost view = { λ s. record { pair = s.pair; touches = manifold_touches s.pair s.points } };
 }
 
-/// Pairs are in the order of their ranks: by the first body, then the second.
+/// Whether the bodies of a pair may touch: they are not both static, and their bounds overlap.
 #[inline]
-pub(crate) fn rank_of(pair: &Pair) -> usize
-    requires { IsPairOf MAX_BODIES pair.now }
-    ensures { result ≡ pair_rank pair.now }
+pub(crate) fn pair_may_touch(bounds: &[Bounds], pair: &Pair) -> bool
+    requires { IsPairOf (length bounds.now) pair.now }
+    ensures { result ≡ pair_may_touch bounds.now pair.now }
 {
-    let key = Key {
-        a: pair.a as u16,
-        b: pair.b as u16,
-        feature: 0,
-    };
-    key.rank()
-}
-
-impl Ranked for Slot {
-    ghost use Rattle.pf_shapes.specs.Pair.{IsPairOf};
-    ghost use Rattle.pf_shapes.specs.declared.scene.TheConstants.{MAX_BODIES};
-    ghost use Rattle.pf_cache.specs.Slots.{pair_rank};
-
-    ghost is_in_range = { λ s. IsPairOf MAX_BODIES s.pair };
-
-    ghost rank = { λ s. pair_rank s.pair };
-
-    #[inline]
-    fn rank(&self) -> usize {
-        rank_of(&self.pair)
-    }
+    may_touch(&bounds[pair.a], &bounds[pair.b])
 }
 
 /// Whether two contact points have the same feature.
 #[inline]
 fn has_same_feature(point: &ContactPoint, other: &ContactPoint) -> bool
-    ensures { IsTrue result → point.now.feature ≡ other.now.feature }
+    ensures { IsTrue result ↔ (point.now.feature ≡ other.now.feature) }
 {
     point.feature == other.feature
 }
 
 /// Whether contact points are as many as these, with the same features in the same order.
 #[inline]
-fn have_same_features(points: &Option<Manifold>, others: &Manifold) -> bool
-    ensures { IsTrue result → map (λ p. p.feature) (points_or_none points.now)
-        ≡ map (λ p. p.feature) (points_of others.now) }
+fn have_same_features(points: &Option<Manifold>, others: &Option<Manifold>) -> bool
+    ensures { IsTrue result ↔ (map (λ p. p.feature) (points_or_none points.now)
+        ≡ map (λ p. p.feature) (points_or_none others.now)) }
 {
     match (points, others) {
-        (None | Some(Manifold::Apart), Manifold::Apart) => true,
-        (Some(Manifold::One(first)), Manifold::One(point)) => has_same_feature(first, point),
-        (Some(Manifold::Two(first, second)), Manifold::Two(point, last)) => {
+        (None | Some(Manifold::Apart), None | Some(Manifold::Apart)) => true,
+        (Some(Manifold::One(first)), Some(Manifold::One(point))) => has_same_feature(first, point),
+        (Some(Manifold::Two(first, second)), Some(Manifold::Two(point, last))) => {
             has_same_feature(first, point) && has_same_feature(second, last)
         }
         _ => false,
+    }
+}
+
+/// How many contact points there are.
+#[inline]
+fn count_of(points: &Option<Manifold>) -> usize
+    ensures { result ≡ length (points_or_none points.now) }
+{
+    match points {
+        Some(points) => points.count(),
+        None => 0,
     }
 }
 
@@ -126,48 +126,42 @@ fn key_of(pair: &Pair, point: &ContactPoint) -> Key
     }
 }
 
-/// The manifold of these contact points of a pair. No clause of a collider says that a pair has at
-/// most two of them, so those of a pair with more would be computed here.
-#[inline]
-fn manifold_of(touches: &[Touch], pair: &Pair, shapes: &[KeptShape]) -> Manifold
-    requires few { length shapes.now ≤ MAX_BODIES }
-    requires pair { IsPairOf (length shapes.now) pair.now }
-    requires touches { touches.now ≡ points_of_pair shapes.now pair.now }
-    ensures { map (touch_of pair.now) (points_of result) ≡ touches.now }
-{
-    match touches {
-        [] => Manifold::Apart,
-        [touch] => Manifold::One(touch.point),
-        [touch, last] => Manifold::Two(touch.point, last.point),
-        _ => manifold_of_pair(shapes, pair),
-    }
-}
-
 impl Slot {
-    ghost use Rattle.std.specs.Prelude.{◌≡◌, ◌≤◌, ◌<◌, ◌++◌, ◌+◌, ◌^◌, All, IfSome, IsOk, IsTrue, OnOk, Option, Some, [], filter, length, map};
-    ghost use Rattle.std.specs.Option.{option_copied};
+    ghost use Rattle.std.specs.Prelude.{◌≡◌, ◌<◌, ◌++◌, ◌+◌, ◌∷◌, ◌^◌, ◌==◌, ◌&&◌, All, IfOk, IsOk, List, None, OnOk, [], filter, if◌then◌else◌, length, map};
     ghost use Rattle.std.specs.List.{enumerate_from};
     ghost use Rattle.pf_shapes.specs.Pair.{IsPairOf};
     ghost use Rattle.pf_shapes.specs.declared.scene.TheConstants.{MAX_BODIES};
-    ghost use Rattle.pf_manifold.specs.Key.{key_of};
-    ghost use Rattle.pf_cache.specs.Manifolds.{points_of_pair};
-    ghost use Rattle.pf_manifold.specs.Manifold.{points_of};
+    ghost use Rattle.pf_manifold.specs.Key.{Key, key_of};
     ghost use Rattle.pf_manifold.specs.Touches.{IsTouchOf, touch_of};
     ghost use Rattle.pf_cache.specs.Points.{is_flagged};
-    ghost use Rattle.pf_cache.specs.Slots.{Slot, emptied_slot, filled_slot, is_stale, slot_touches, touches_if};
+    ghost use Rattle.pf_cache.specs.KeyEdits.{AreEditsUpTo};
+    ghost use Rattle.pf_cache.specs.Slots.{Slot, is_stale_if, manifold_touches, slot_touches};
 
-    /// The slot of a pair with the contact points of its old slot, if there is one.
+    /// The slot of a pair, without contact points.
     #[inline]
-    pub(crate) fn carried(pair: Pair, before: Option<&Slot>) -> Slot
-        requires { IfSome (option_copied before) (λ s. s.pair ≡ pair) }
-        ensures { result
-            ≡ record { pair = pair; touches = touches_if (option_copied before.entry) } }
+    pub(crate) fn empty(pair: Pair) -> Slot
+        ensures { result ≡ record { pair = pair; touches = None } }
     {
-        let points = match before {
-            Some(slot) => slot.points,
-            None => None,
-        };
-        Slot { pair, points }
+        Slot { pair, points: None }
+    }
+
+    /// A copy.
+    #[inline]
+    pub(crate) fn copied(&self) -> Slot
+        ensures { result ≡ self.now }
+    {
+        Slot {
+            pair: self.pair,
+            points: self.points,
+        }
+    }
+
+    /// Whether it is the slot of this pair.
+    #[inline]
+    pub(crate) fn is_of(&self, pair: &Pair) -> bool
+        ensures { result ≡ (self.now.pair.a == pair.now.a) && (self.now.pair.b == pair.now.b) }
+    {
+        (self.pair.a == pair.a) & (self.pair.b == pair.b)
     }
 
     /// The pair.
@@ -183,69 +177,55 @@ impl Slot {
     pub(crate) fn count(&self) -> usize
         ensures { result ≡ length (slot_touches self.now) }
     {
-        match &self.points {
-            Some(points) => points.count(),
-            None => 0,
-        }
+        count_of(&self.points)
     }
 
-    /// Drops the contact points where the bounds are apart. Returns whether they have to be
-    /// computed: the bounds overlap, and they did not before or a body moved.
+    /// Whether the slot is not up to date. If its bounds overlap, it is not where they did not
+    /// before or a body moved; else it is not where there are contact points still.
     #[inline]
-    pub(crate) fn refresh(&mut self, bounds: &[Bounds], unmoved: &[bool]) -> bool
-        requires { IsPairOf (length bounds.now) self.old.pair }
-        ensures slot { self.new ≡ emptied_slot bounds.now self.old }
-        ensures stale { result ≡ is_stale bounds.now unmoved.now self.old }
+    pub(crate) fn is_stale(&self, overlap: bool, unmoved: &[bool]) -> bool
+        ensures { result ≡ is_stale_if overlap unmoved.now self.now }
     {
-        if may_touch(&bounds[self.pair.a], &bounds[self.pair.b]) {
+        if overlap {
             return self.points.is_none() || !are_unmoved(unmoved, &self.pair);
         }
-        self.points = None;
-        false
+        self.points.is_some()
     }
 
-    /// Gives the slot these contact points. Returns whether they are known to have the keys of
-    /// those before.
+    /// Gives the slot these contact points, and notes in `edits` how the keys change: `kept` keys
+    /// stay between the last edit and those of the slot. Returns how many stay after the last edit
+    /// then. After an error the slot and `edits` may have changed.
     #[inline]
-    fn set_points(&mut self, points: Manifold) -> bool
-        ensures slot { self.new ≡ record self.old {
-          touches = Some (map (touch_of self.old.pair) (points_of points));
-        } }
-        ensures keys { IsTrue result
-            → map key_of (slot_touches self.new) ≡ map key_of (slot_touches self.old) }
+    pub(crate) fn replace(
+        &mut self,
+        points: Option<Manifold>,
+        kept: usize,
+        edits: &mut KeyEdits,
+    ) -> Result<usize, AllocError>
+        requires { IsPairOf MAX_BODIES self.old.pair }
+        ensures slot { OnOk result
+            (self.new ≡ record self.old { touches = manifold_touches self.old.pair points }) }
+        ensures edits { IfOk result (λ rest. (before after : List Key)
+            → AreEditsUpTo edits.old kept before after
+            → AreEditsUpTo edits.new rest
+            (before ++ map key_of (slot_touches self.old))
+            (after ++ map key_of (slot_touches self.new))) }
     {
         let same_keys = have_same_features(&self.points, &points);
-        self.points = Some(points);
-        same_keys
-    }
-
-    /// Takes these contact points of the pair. Returns whether they are known to have the keys of
-    /// those before.
-    #[inline]
-    pub(crate) fn take(&mut self, touches: &[Touch], shapes: &[KeptShape]) -> bool
-        requires few { length shapes.now ≤ MAX_BODIES }
-        requires pair { IsPairOf (length shapes.now) self.old.pair }
-        requires touches { touches.now ≡ points_of_pair shapes.now self.old.pair }
-        ensures slot { self.new ≡ record self.old { touches = Some touches.now } }
-        ensures keys { IsTrue result
-            → map key_of (slot_touches self.new) ≡ map key_of (slot_touches self.old) }
-    {
-        let points = manifold_of(touches, &self.pair, shapes);
-        self.set_points(points)
-    }
-
-    /// Computes the contact points of the pair. Returns whether they are known to have the keys of
-    /// those before.
-    #[inline]
-    pub(crate) fn compute(&mut self, shapes: &[KeptShape]) -> bool
-        requires few { length shapes.now ≤ MAX_BODIES }
-        requires pair { IsPairOf (length shapes.now) self.old.pair }
-        ensures slot { self.new ≡ filled_slot shapes.now self.old }
-        ensures keys { IsTrue result
-            → map key_of (slot_touches self.new) ≡ map key_of (slot_touches self.old) }
-    {
-        let points = manifold_of_pair(shapes, &self.pair);
-        self.set_points(points)
+        let dropped = self.count();
+        self.points = points;
+        let added = self.count();
+        if same_keys {
+            let rest = kept.checked_add(added).ok_or(AllocError)?;
+            return Ok(rest);
+        }
+        edits.edits.push(KeyEdit {
+            kept,
+            dropped,
+            added,
+        })?;
+        self.push_keys(&mut edits.added)?;
+        Ok(0)
     }
 
     /// Adds the keys of the contact points to a list. After an error some of them may have been

@@ -4,7 +4,7 @@ ghost use Rattle.std.specs.Prelude.{◌≡◌, ◌≢◌, ◌≤◌, ◌+◌, �
 ghost use Rattle.pf_step.specs.Changes.{bodies_before, change_of, changes_of};
 
 use crate::work::Work;
-use pf_cache::{Contacts, ContactsChange, Manifolds};
+use pf_cache::{Contacts, ContactsChange, KeyEdits, Manifolds};
 use pf_commands::Payload;
 use pf_islands::Island;
 use pf_shapes::BodyState;
@@ -134,11 +134,12 @@ pub(crate) fn undo_bodies(bodies: &mut [BodyState], changes: &[BodyChange])
 }
 
 impl Changes {
-    ghost use Rattle.std.specs.Prelude.{◌≡◌, ◌++◌, [], All, IsOk, IsTrue, OnErr, OnOk, false, map};
+    ghost use Rattle.std.specs.Prelude.{◌≡◌, ◌++◌, [], All, IfSome, IsOk, IsTrue, OnErr, OnOk, false, map};
     ghost use Rattle.pf_manifold.specs.Key.{AreTouches, key_of};
     ghost use Rattle.pf_cache.specs.Contact.{next_contacts};
     ghost use Rattle.pf_cache.specs.ContactRows.{AreRowsAt};
     ghost use Rattle.pf_cache.specs.ContactsChange.{contacts_before};
+    ghost use Rattle.pf_cache.specs.KeyEdits.{AreEditsBetween};
     ghost use Rattle.pf_cache.specs.Manifolds.{kept_touches};
     ghost use Rattle.pf_step.specs.Changes.{bodies_before, changes_by_commands, changes_of, changes_of_islands, no_changes, MayChange};
 
@@ -222,34 +223,40 @@ impl Changes {
         note_all(&mut self.bodies, bodies, numbers)
     }
 
-    /// Makes of the contacts of the last tick those of the points of `manifolds`, and keeps what
-    /// that changes. With `have_keys` they have the keys of all these points, in the same order.
-    /// With `may_stay`, contacts that have the keys of all points may stay in place (no clause says
+    /// Replaces the contacts of the last tick by those of the points of `manifolds`, and keeps what
+    /// that changes. `key_edits` say how the keys of the points changed since the last tick, if
+    /// that is known; with `is_known` the contacts have the keys that these points had then, in the
+    /// same order. With `may_stay`, contacts whose keys all stay may stay in place (no clause says
     /// that they do). After an error the contacts are as they were, and undoing leaves them so.
     pub(crate) fn update_contacts(
         &mut self,
         alloc: Global,
         contacts: &mut Contacts,
         manifolds: &Manifolds,
-        have_keys: bool,
+        key_edits: &Option<KeyEdits>,
+        is_known: bool,
         may_stay: bool,
     ) -> Result<(), AllocError>
         requires order { AreTouches (kept_touches manifolds.now) }
-        requires known { IsTrue have_keys → map (λ c. c.key) contacts.old
-            ≡ map key_of (kept_touches manifolds.now) }
+        requires known { IsTrue is_known → IfSome key_edits.now
+            (λ edits. AreEditsBetween edits (map (λ c. c.key) contacts.old)
+            (map key_of (kept_touches manifolds.now))) }
         ensures value { OnOk result
             (contacts.new ≡ next_contacts contacts.old (kept_touches manifolds.now)) }
         ensures before { contacts_before self.new.contacts contacts.new ≡ contacts.old }
+        ensures anew { OnOk result (may_stay ≡ false → self.new.contacts.in_place ≡ false) }
         ensures unchanged { OnErr result (contacts.new ≡ contacts.old) }
         ensures bodies { self.new.bodies ≡ self.old.bodies }
         ensures no_memory { kept_touches manifolds.now ≡ [] → IsOk result }
     {
-        if have_keys {
-            return contacts.keep(may_stay, &mut self.contacts);
+        match key_edits {
+            Some(edits) if is_known => contacts.edit(edits, may_stay, &mut self.contacts),
+            _ => {
+                self.contacts.clear();
+                let keys = manifolds.keys(alloc)?;
+                contacts.set_keys(&keys, &mut self.contacts)
+            }
         }
-        self.contacts.clear();
-        let keys = manifolds.keys(alloc)?;
-        contacts.set_keys(&keys, may_stay, &mut self.contacts)
     }
 
     /// Notes the impulses of the contacts of islands, so that they may change. After an error some

@@ -1,9 +1,10 @@
 //! The phase Points: the contact points of a tick. Its contacts follow in
 //! [`Changes::update_contacts`](crate::Changes).
 
-ghost use Rattle.std.specs.Prelude.{◌≡◌, ◌<◌, [], All, length, map, IfOk, IsOk, IsTrue};
+ghost use Rattle.std.specs.Prelude.{◌≡◌, ◌<◌, [], All, length, map, IfOk, IfSome, IsOk};
 ghost use Rattle.pf_manifold.specs.Key.{key_of};
 ghost use Rattle.pf_manifold.specs.Touches.{IsTouchOf};
+ghost use Rattle.pf_cache.specs.KeyEdits.{AreEditsBetween};
 ghost use Rattle.pf_cache.specs.Manifolds.{kept_touches};
 ghost use Rattle.pf_cache.specs.PlacedBodies.{HaveStayed, bodies_of};
 ghost use Rattle.pf_step.specs.Step.{collisions_of_bodies, touches_of_scene};
@@ -14,8 +15,8 @@ use pf_shapes::{BodyState, Scene};
 use std::alloc::{AllocError, Global};
 
 /// The contact points of the bodies of a scene as they stand; kept ones are reused. Only bodies of
-/// `moved` may have moved since these were kept. Also finds whether the points are known to have
-/// the keys of the kept ones.
+/// `moved` may have moved since these were kept. Also finds how the keys of the points changed
+/// since then, if that is known.
 #[tactic(auto, using(pf_cache::proofs::Unmoved::kept_points, pf_manifold::proofs::KeyOrder::touches_of_bodies))]
 pub(crate) fn find_collisions<P: Collider>(
     collider: &P,
@@ -35,8 +36,9 @@ pub(crate) fn find_collisions<P: Collider>(
         ≡ touches_of_scene scene.now bodies.now) }
     ensures bodies { IfOk result (λ found. All (IsTouchOf (length bodies.now))
         (kept_touches found.collisions.manifolds)) }
-    ensures same_keys { IfOk result (λ found. IsTrue found.same_keys
-        → map key_of (kept_touches kept) ≡ map key_of (kept_touches found.collisions.manifolds)) }
+    ensures key_edits { IfOk result (λ found. IfSome found.key_edits
+        (λ edits. AreEditsBetween edits (map key_of (kept_touches kept))
+        (map key_of (kept_touches found.collisions.manifolds)))) }
     ensures no_memory { bodies.now ≡ [] → IsOk result }
 {
     kept.update(collider, alloc, scene, bodies, moved)

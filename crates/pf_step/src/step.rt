@@ -49,8 +49,8 @@ fn few_may_have_moved(moved: usize, bodies: usize) -> bool {
 ///
 /// The world has to be the one that the last step with `work` left, unless `work` knows nothing of
 /// moved bodies. Only bodies that may have moved or have a command are compared with how they
-/// stood. Where the points are known to have the keys of the last ones, keys of contacts are not
-/// compared. [`step_by`](crate::step_by) has no such condition.
+/// stood. Where it is known how the keys of the points changed since the last ones, contacts whose
+/// keys stayed are not looked up. [`step_by`](crate::step_by) has no such condition.
 pub fn step_next<P: Collider, C: Crew>(
     collider: &P,
     alloc: Global,
@@ -142,9 +142,16 @@ fn finish_tick<P: Collider, C: Crew>(
     // Points
     let may_stay = few_may_have_moved(work.moved().len(), scene.fixtures().len());
     let found = find_collisions(collider, alloc, scene, &world.bodies, kept, work.moved())?;
-    let have_keys = is_known && found.same_keys;
     let manifolds = &found.collisions.manifolds;
-    changes.update_contacts(alloc, &mut world.contacts, manifolds, have_keys, may_stay)?;
+    let key_edits = &found.key_edits;
+    changes.update_contacts(
+        alloc,
+        &mut world.contacts,
+        manifolds,
+        key_edits,
+        is_known,
+        may_stay,
+    )?;
     // Activity
     let lone = crew.lone_bodies();
     let parts = split_and_note(alloc, scene, world, manifolds, work, changes, lone)?;

@@ -6,7 +6,7 @@ ghost use Rattle.pf_manifold.specs.Key.{AreTouches};
 
 use crate::pairs_of_scenes::found;
 use crate::scenes::scene_of;
-use pf_cache::{Contact, Contacts, ContactsChange, Meter};
+use pf_cache::{Contact, Contacts, ContactsChange, KeyEdits, Meter};
 use pf_manifold::Touch;
 use pf_rows::Impulses;
 use std::alloc::Global;
@@ -91,18 +91,28 @@ fn contacts_are_those_of_the_points(rt: HostRuntime) -> Result<(), Fail> {
     Ok(())
 }
 
-/// Whether contacts stay as they are where they are kept, and are restored of their copy after they
-/// became those of fewer points.
+/// Whether the contacts of both boxes stay as they are where no key changes.
+fn stay_unedited(
+    alloc: Global,
+    contacts: &mut Contacts,
+    may_stay: bool,
+    change: &mut ContactsChange,
+) -> Result<bool, Fail> {
+    let before = are_of_both_boxes(contacts.as_slice());
+    contacts.edit(&KeyEdits::new(alloc), may_stay, change)?;
+    Ok(before && are_of_both_boxes(contacts.as_slice()))
+}
+
+/// Whether contacts stay as they are where no key changes, and are restored of their copy after
+/// they became those of fewer points.
 fn are_kept(
     alloc: Global,
     contacts: &mut Contacts,
     change: &mut ContactsChange,
 ) -> Result<bool, Fail> {
     update(alloc, contacts, change, BOTH_STAND)?;
-    contacts.keep(true, change)?;
-    let in_place = are_of_both_boxes(contacts.as_slice());
-    contacts.keep(false, change)?;
-    let copied = are_of_both_boxes(contacts.as_slice());
+    let in_place = stay_unedited(alloc, contacts, true, change)?;
+    let copied = stay_unedited(alloc, contacts, false, change)?;
     let mut later = ContactsChange::new(alloc);
     update(alloc, contacts, &mut later, ONE_STANDS)?;
     contacts.undo_copied(change)?;

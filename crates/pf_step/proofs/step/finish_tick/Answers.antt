@@ -1,14 +1,14 @@
 use Rattle.std.proofs.Common.{rules, ◌≡◌, ◌∙◌, ◌++◌, List, ap, ap₂, append_assoc, length, map, refl, subst, sym}
 use Rattle.std.specs.Vec.{with_items}
 use Rattle.std.proofs.lemmas.List.{with_items_is}
-use Rattle.std.proofs.lemmas.Bool.{true≢false}
 use Rattle.std.proofs.lemmas.Result.{err_from_is_err_and}
-use Rattle.std.specs.Prelude.{All, Err}
+use Rattle.std.specs.Prelude.{All, Err, IfSome}
 use Rattle.pf_shapes.specs.Body.{BodyState}
 use Rattle.pf_manifold.specs.Key.{AreTouches, key_of}
 use Rattle.pf_cache.specs.Contact.{Contact, next_contacts}
 use Rattle.pf_cache.specs.ContactRows.{AreRowsAt}
 use Rattle.pf_cache.specs.ContactsChange.{ContactsChange, contacts_before}
+use Rattle.pf_cache.specs.KeyEdits.{AreEditsBetween}
 use Rattle.pf_cache.specs.Manifolds.{kept_touches}
 use Rattle.pf_cache.specs.declared.manifolds.FoundCollisions.{FoundCollisions}
 use Rattle.pf_cache.proofs.Kept.{same_keys}
@@ -31,7 +31,7 @@ use Rattle.pf_step.proofs.Joined.{ended_join}
 use Rattle.pf_step.proofs.Parted.{made_at_contacts, made_at_home, noted_in_order, others, parted_before, parted_bodies, parted_contacts, parted_have_awake}
 use Rattle.pf_step.proofs.Restored.{contacts_restored}
 use Rattle.pf_step.proofs.Touching.{points_in_order}
-use Rattle.pf_step.proofs.step.finish_tick.Goals.{After-deref-3, After-deref_mut-2, After-split_and_note, In_ok-found, In_ok-parts, In_ok-update_contacts, else-is_known, then-is_known}
+use Rattle.pf_step.proofs.step.finish_tick.Goals.{After-deref-3, After-deref_mut-2, After-split_and_note, In_ok-found, In_ok-parts, In_ok-update_contacts}
 use Rattle.pf_step.proofs.step.finish_tick.Goals as goal
 
 -- ---- what stands after each phase
@@ -49,7 +49,7 @@ contacts_are : (g : _) (c : In_ok-update_contacts g)
 contacts_are g c =
     c.in_ok-update_contacts.ensures.value
     ∙ ap₂ next_contacts (ap (λ (v : World). v.contacts) c.world.view_is)
-    (ap (λ (x : FoundCollisions). kept_touches x.collisions.manifolds) c.found-2.view_is ∙ points_are g (goal.at.In_ok-update_contacts g c).In_ok-found)
+    (ap (λ (x : FoundCollisions). kept_touches x.collisions.manifolds) c.found.view_is ∙ points_are g (goal.at.In_ok-update_contacts g c).In_ok-found)
 
 -- the points are in the order of their keys
 in_order : (g : _) (c : In_ok-update_contacts g) → AreTouches (touches_of_scene c.args.scene.now c.args.world.now.bodies)
@@ -116,24 +116,33 @@ restored : (g : _) (c : After-split_and_note g)
 restored g c =
     c.split_and_note.ensures.same_contacts ∙ c.update_contacts.ensures.before ∙ ap (λ (v : World). v.contacts) c.world.view_is
 
+-- and what is noted of all restores the world before, until islands are solved
+undone : (g : _) (c : After-split_and_note g)
+    → world_before c.split_and_note.new.changes (record { bodies = c.world.inside.bodies.items; contacts = c.update_contacts.new.contacts })
+    ≡ record { bodies = bodies_before c.args.changes.now.bodies c.args.world.now.bodies; contacts = c.args.world.now.contacts }
+unfolding world_before
+undone g c =
+    ap₂ (λ bs cs. record { bodies = bs; contacts = cs })
+    (c.split_and_note.ensures.same ∙ ap₂ bodies_before c.update_contacts.ensures.bodies (ap (λ (v : World). v.bodies) c.world.view_is))
+    (restored g c)
+
 -- ---- the answers
 
 pub update_contacts-requires-clause-order : goal.update_contacts-requires-clause-order
 update_contacts-requires-clause-order g c =
     subst AreTouches
-    (sym (ap (λ (x : FoundCollisions). kept_touches x.collisions.manifolds) c.found-2.view_is
+    (sym (ap (λ (x : FoundCollisions). kept_touches x.collisions.manifolds) c.found.view_is
     ∙ points_are g (goal.at.update_contacts-requires-clause-order g c).In_ok-found))
     (points_in_order c.args.scene.now c.args.world.now.bodies c.requires.bodies c.fixtures.ensures.scene)
 
 pub update_contacts-requires-clause-known : goal.update_contacts-requires-clause-known
-update_contacts-requires-clause-known g c = λ have_keys.
-    ap (λ (v : World). map (λ (x : Contact). x.key) v.contacts) c.world.view_is
-    ∙ (elim c.if-is_known.branch [
-      | then-is_known x ↦ c.requires.known x.if-is_known.true ∙ c.in_ok-found.ensures.same_keys
-          (sym (ap (λ (y : FoundCollisions). y.same_keys) x.found.view_is) ∙ sym x.have_keys-is ∙ have_keys)
-      | else-is_known x ↦ absurd (true≢false (sym have_keys ∙ x.have_keys-is ∙ x.if-is_known.false))
-    ])
-    ∙ ap (λ (x : FoundCollisions). map key_of (kept_touches x.collisions.manifolds)) (sym c.found-2.view_is)
+update_contacts-requires-clause-known g c = λ known.
+    let found = c.in_ok-found.found in
+    let keys = ap (λ (v : World). map (λ (x : Contact). x.key) v.contacts) c.world.view_is ∙ c.requires.known known in
+    subst (λ (x : FoundCollisions). IfSome x.key_edits (λ edits. AreEditsBetween edits
+    (map (λ (k : Contact). k.key) c.world.inside.contacts) (map key_of (kept_touches x.collisions.manifolds)))) (sym c.found.view_is)
+    (subst (λ before. IfSome found.key_edits (λ edits. AreEditsBetween edits before (map key_of (kept_touches found.collisions.manifolds))))
+    (sym keys) c.in_ok-found.ensures.key_edits)
 
 pub split_and_note-requires-clause-order : goal.split_and_note-requires-clause-order
 split_and_note-requires-clause-order g c =
@@ -144,7 +153,7 @@ pub split_and_note-requires-clause-keys : goal.split_and_note-requires-clause-ke
 split_and_note-requires-clause-keys g c =
     let s = c.args.scene.now in
     let w = c.args.world.now in
-    let points = ap (λ (x : FoundCollisions). kept_touches x.collisions.manifolds) c.found-2.view_is
+    let points = ap (λ (x : FoundCollisions). kept_touches x.collisions.manifolds) c.found.view_is
     ∙ points_are g (goal.at.split_and_note-requires-clause-keys g c).In_ok-found in
     ap (map (λ (x : Contact). x.key)) c.in_ok-update_contacts.ensures.value
     ∙ same_keys c.world.inside.contacts _ ∙ ap (map key_of) points
@@ -230,32 +239,23 @@ returns-in_err-update_contacts-clause-tick g c = record {
 }
 
 pub returns-in_err-parts-clause-tick : goal.returns-in_err-parts-clause-tick
-unfolding world_before
 returns-in_err-parts-clause-tick g c = record {
   value = search rules;
-  before = ap₂ (λ bs cs. record { bodies = bs; contacts = cs })
-      (c.split_and_note.ensures.same ∙ ap₂ bodies_before c.update_contacts.ensures.bodies (ap (λ (v : World). v.bodies) c.world.view_is))
-      (restored g (goal.at.returns-in_err-parts-clause-tick g c).After-split_and_note);
+  before = undone g (goal.at.returns-in_err-parts-clause-tick g c).After-split_and_note;
   added = search rules;
 }
 
 pub returns-in_err-set_moved-clause-tick : goal.returns-in_err-set_moved-clause-tick
-unfolding world_before
 returns-in_err-set_moved-clause-tick g c = record {
   value = search rules;
-  before = ap₂ (λ bs cs. record { bodies = bs; contacts = cs })
-      (c.split_and_note.ensures.same ∙ ap₂ bodies_before c.update_contacts.ensures.bodies (ap (λ (v : World). v.bodies) c.world.view_is))
-      (restored g (goal.at.returns-in_err-set_moved-clause-tick g c).After-split_and_note);
+  before = undone g (goal.at.returns-in_err-set_moved-clause-tick g c).After-split_and_note;
   added = search rules;
 }
 
 pub returns-in_err-solved-clause-tick : goal.returns-in_err-solved-clause-tick
-unfolding world_before
 returns-in_err-solved-clause-tick g c = record {
   value = search rules;
-  before = ap₂ (λ bs cs. record { bodies = bs; contacts = cs })
-      (c.split_and_note.ensures.same ∙ ap₂ bodies_before c.update_contacts.ensures.bodies (ap (λ (v : World). v.bodies) c.world.view_is))
-      (restored g (goal.at.returns-in_err-solved-clause-tick g c).After-split_and_note);
+  before = undone g (goal.at.returns-in_err-solved-clause-tick g c).After-split_and_note;
   added = search rules;
 }
 
@@ -284,7 +284,7 @@ returns-clause-awake g c =
 
 pub returns-clause-found : goal.returns-clause-found
 returns-clause-found g c =
-    ap (λ (x : FoundCollisions). x.collisions) c.found-2.view_is ∙ c.in_ok-found.ensures.value
+    ap (λ (x : FoundCollisions). x.collisions) c.found.view_is ∙ c.in_ok-found.ensures.value
     ∙ ap (λ bs. collisions_of_bodies c.args.scene.now.fixtures bs c.args.kept)
     (c.deref.ensures.value ∙ ap (λ (v : World). v.bodies) c.world.view_is)
 

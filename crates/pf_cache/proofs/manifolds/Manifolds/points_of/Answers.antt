@@ -38,7 +38,7 @@ flagged_points_of-requires-clause-flags c =
 pub flagged_points_of_live-requires-clause-live : goal.flagged_points_of_live-requires-clause-live
 flagged_points_of_live-requires-clause-live c =
     let live = c.self.inside.live in
-    subst (AreLive live.watched.items live.slots.items) (sym c.as_slice-slots.ensures.value) c.self.invariant.1
+    subst (AreLive live.watched.items live.places.items) (sym c.as_slice-slots.ensures.value) c.self.invariant.1
 
 pub flagged_points_of_live-requires-clause-watched : goal.flagged_points_of_live-requires-clause-watched
 flagged_points_of_live-requires-clause-watched c =
