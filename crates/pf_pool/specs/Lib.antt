@@ -3,3 +3,4 @@ pub mod Pool
 pub mod Reply
 pub mod Known
 pub mod Slots
+pub mod Asking

@@ -1,7 +1,5 @@
 -- What a contract sees of a pool, and with which errors it fails.
 use Rattle.std.specs.Prelude.{◌≡◌, ℕ, ◌+◌, ◌<◌, ◌≤◌, ⊤, Bool, true, List, All, IsSome, Option, Some, None, length, slice_index_or}
-use Rattle.crossbeam_channel.specs.declared.err.SendError.{SendError}
-use Rattle.crossbeam_channel.specs.declared.err.SendError.TheVariants as sends
 use Rattle.pf_pool.specs.declared.error.PoolError.{PoolError}
 use Rattle.pf_pool.specs.declared.error.PoolError.TheVariants.{OutOfMemory, NoThread, WorkerLost}
 
@@ -16,17 +14,6 @@ abbrev pub IsRunError : PoolError → Type 0
 IsRunError OutOfMemory = ⊤
 IsRunError NoThread = ⊥
 IsRunError WorkerLost = ⊤
-
--- the error of a job that could not be sent: only a channel that is closed means a lost worker
-abbrev pub error_of_send : {T : Type 0} → SendError T → PoolError
-error_of_send (sends.OutOfMemory job) = OutOfMemory
-error_of_send (sends.Disconnected job) = WorkerLost
-
--- the error of a job for a worker: where it could not be sent, it comes back, and where there was
--- no memory for it, that is told as out of memory
-abbrev pub IsAskError : {J : Type 0} → SendError (Option J) → Type 0
-IsAskError (sends.OutOfMemory job) = ⊤
-IsAskError (sends.Disconnected job) = IsSome job
 
 -- no worker was dismissed
 abbrev pub HasAllWorkers : List Bool → Type 0

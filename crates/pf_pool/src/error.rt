@@ -1,6 +1,5 @@
 //! Errors of a pool.
 
-use crossbeam_channel::SendError;
 use std::alloc::{AllocError, AllocFailed};
 use thiserror::Error;
 
@@ -37,20 +36,5 @@ impl<T: Drop> From<AllocFailed<T>> for PoolError {
 
     fn from(_: AllocFailed<T>) -> PoolError {
         PoolError::OutOfMemory
-    }
-}
-
-/// A job that found no memory is out of memory, and the worker is still there.
-impl<T: Drop> From<SendError<T>> for PoolError {
-    ghost use Rattle.std.specs.Prelude.{◌≡◌};
-    ghost use Rattle.pf_pool.specs.Pool.{error_of_send};
-
-    ghost from_gives = { λ error result. result ≡ error_of_send error };
-
-    fn from(error: SendError<T>) -> PoolError {
-        match error {
-            SendError::OutOfMemory(_) => PoolError::OutOfMemory,
-            SendError::Disconnected(_) => PoolError::WorkerLost,
-        }
     }
 }

@@ -6,8 +6,7 @@ use crate::error::PoolError;
 use crate::reply::{Collector, Dealt};
 use crate::slots::{accept, have_answered};
 use crate::task::Task;
-use crate::worker::{Job, Worker, others, start};
-use crossbeam_channel::SendError;
+use crate::worker::{AskError, Job, Worker, others, start};
 use std::alloc::{AllocError, Global};
 use std::cell::Cell;
 use std::marker::Model;
@@ -65,7 +64,7 @@ fn best_part_count<R: Threads, T: Task>(rt: &R, workers: usize, task: &T) -> usi
 
 impl<R: Wait, T: Task> Pool<R, T> {
     ghost use Rattle.std.specs.Prelude.{◌≡◌, ℕ, ◌+◌, ◌<◌, ◌≤◌, All, Err, IfErr, IfOk, IsFalse, IsSome, IsTrue, None, OnOk, Some, false, length, replicate, slice_index_or, slice_set, true};
-    ghost use Rattle.pf_pool.specs.Pool.{AreDone, ArePartlyDone, HasAllWorkers, IsAskError, IsRunError, IsStartError};
+    ghost use Rattle.pf_pool.specs.Pool.{AreDone, ArePartlyDone, HasAllWorkers, IsRunError, IsStartError};
     ghost use Rattle.pf_pool.specs.Reply.{WasDealt, WereDealt};
     ghost use Rattle.pf_pool.specs.Slots.{AreAnswers, AreAway, HaveAnswered};
     ghost use Rattle.pf_pool.specs.declared.error.PoolError.TheVariants.{WorkerLost};
@@ -130,10 +129,10 @@ impl<R: Wait, T: Task> Pool<R, T> {
         true
     }
 
-    /// A pool of the same workers, which does not join them. After this pool has dismissed one, or
-    /// was closed, the other fails where somebody watches, and else does those parts itself.
-    /// Neither may be done while the other runs, nor may the other dismiss: one of the two may then
-    /// wait for ever.
+    /// A pool of the same workers, which does not join them. Once this pool has dismissed one, or
+    /// was closed, the other does those parts itself where nobody watches, also in a run that has
+    /// begun, and else fails. Only this pool may dismiss workers: after the other has ended one, a
+    /// run of this one may wait for ever.
     pub fn another(&self) -> Result<Pool<R, T>, AllocError>
     where
         R: Copy,
@@ -198,21 +197,23 @@ impl<R: Wait, T: Task> Pool<R, T> {
         part: T::Part,
         collector: &mut Collector<T>,
         own: &mut Option<Job<T>>,
-    ) -> Result<(), SendError<Option<Job<T>>>>
+    ) -> Result<(), AskError<T>>
         requires within { worker < length self.now }
         requires dealt { WasDealt collector.old worker part }
         ensures same { collector.new ≡ collector.old }
-        ensures failed { IfErr result IsAskError }
     {
         let Ok(replier) = collector.replier() else {
-            return Err(SendError::OutOfMemory(None));
+            return Err(AskError::OutOfMemory);
         };
         let job = Job::new(turn, worker, part, replier);
         if worker == 0 && !self.task.is_watched() {
             *own = Some(job);
             return Ok(());
         }
-        self.workers[worker].ask(&self.rt, job)
+        match self.workers[worker].ask(&self.rt, job) {
+            Ok(()) => Ok(()),
+            Err(job) => Err(AskError::Lost(job)),
+        }
     }
 
     /// Asks one worker after the other to do its part, from the last to the first, up to the first
@@ -224,7 +225,7 @@ impl<R: Wait, T: Task> Pool<R, T> {
         slots: &mut [Option<T::Part>],
         collector: &mut Collector<T>,
         own: &mut Option<Job<T>>,
-    ) -> (usize, Result<(), SendError<Option<Job<T>>>>)
+    ) -> (usize, Result<(), AskError<T>>)
         requires dealt { WereDealt collector.old slots.old }
         requires count { length slots.old ≤ length self.now }
         requires some { All IsSome slots.old }
@@ -235,7 +236,6 @@ impl<R: Wait, T: Task> Pool<R, T> {
         ensures kept { (w : ℕ) → w + 1 < result.0
             → slice_index_or slots.new w None ≡ slice_index_or slots.old w None }
         ensures all { OnOk result.1 (result.0 ≡ 0) }
-        ensures failed { IfErr result.1 IsAskError }
     {
         let mut least = slots.len();
         while least > 0 {
@@ -294,7 +294,7 @@ impl<R: Wait, T: Task> Pool<R, T> {
         turn: usize,
         slots: &mut [Option<T::Part>],
         collector: &mut Collector<T>,
-    ) -> (usize, Result<(), SendError<Option<Job<T>>>>)
+    ) -> (usize, Result<(), AskError<T>>)
         requires dealt { WereDealt collector.old slots.old }
         requires count { length slots.old ≤ length self.now }
         requires some { All IsSome slots.old }
@@ -305,7 +305,6 @@ impl<R: Wait, T: Task> Pool<R, T> {
         ensures kept { (w : ℕ) → w + 1 < result.0
             → slice_index_or slots.new w None ≡ slice_index_or slots.old w None }
         ensures asked { OnOk result.1 (result.0 ≡ 0) }
-        ensures failed { IfErr result.1 IsAskError }
     {
         let mut own = None;
         let (least, asked) = self.ask_each(turn, slots, collector, &mut own);

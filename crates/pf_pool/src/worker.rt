@@ -9,7 +9,7 @@ ghost use Rattle.pf_pool.specs.declared.error.PoolError.TheVariants.{NoThread};
 use crate::error::PoolError;
 use crate::reply::{LOOKS, Replier};
 use crate::task::Task;
-use crossbeam_channel::{Receiver, SendError, Sender, TryRecvError};
+use crossbeam_channel::{Receiver, Sender, TryRecvError};
 use std::alloc::{AllocError, Global};
 use std::marker::Model;
 use std::sync::{Arc, Wait};
@@ -53,6 +53,30 @@ impl<T: Task> Job<T> {
         } = self;
         let done = task.run(worker, turn, part);
         replier.send(rt, worker, done);
+    }
+}
+
+/// Why a worker was not asked.
+#[derive(Drop)]
+pub(crate) enum AskError<T: Task> {
+    /// There was no memory for the end of the channel over which it is to answer.
+    OutOfMemory,
+    /// It was dismissed, or its thread has ended: this job was not sent.
+    Lost(Job<T>),
+}
+
+/// Without memory no worker is lost: a job, which is lost with one, was not made yet.
+impl<T: Task> From<AskError<T>> for PoolError {
+    ghost use Rattle.std.specs.Prelude.{◌≡◌};
+    ghost use Rattle.pf_pool.specs.Asking.{error_of_ask};
+
+    ghost from_gives = { λ error result. result ≡ error_of_ask error };
+
+    fn from(error: AskError<T>) -> PoolError {
+        match error {
+            AskError::OutOfMemory => PoolError::OutOfMemory,
+            AskError::Lost(_) => PoolError::WorkerLost,
+        }
     }
 }
 
@@ -121,9 +145,7 @@ impl<T: Task> Model for Worker<T> {
 }
 
 impl<T: Task> Worker<T> {
-    ghost use Rattle.std.specs.Prelude.{◌≡◌, Err, IfErr, IfOk, OnOk, Some, false, true};
-    ghost use Rattle.crossbeam_channel.specs.Err.{send_message};
-    ghost use Rattle.crossbeam_channel.specs.declared.err.SendError.TheVariants.{Disconnected};
+    ghost use Rattle.std.specs.Prelude.{◌≡◌, IfErr, IfOk, IsErr, OnOk, false, true};
     ghost use Rattle.pf_pool.specs.Pool.{IsStartError};
 
     /// Starts a worker. After an error its thread ends by itself, if it was started.
@@ -175,22 +197,40 @@ impl<T: Task> Worker<T> {
         })
     }
 
-    /// Sends a job. Returns an error if the worker was dismissed, if its thread has ended, or where
-    /// there is no memory.
-    pub(crate) fn ask<R: Wait>(&self, rt: &R, job: Job<T>) -> Result<(), SendError<Option<Job<T>>>>
+    /// Sends a job, which takes no memory. Returns it if the worker was dismissed, or if its thread
+    /// has ended.
+    pub(crate) fn ask<R: Wait>(&self, rt: &R, job: Job<T>) -> Result<(), Job<T>>
         ensures there { OnOk result (self.now ≡ true) }
-        ensures gone { self.now ≡ false → result ≡ Err (Disconnected (Some job)) }
-        ensures back { IfErr result (λ error. send_message error ≡ Some job) }
+        ensures gone { self.now ≡ false → IsErr result }
+        ensures back { IfErr result (λ unsent. unsent ≡ job) }
     {
-        match &self.jobs {
-            Some(jobs) => jobs.send(rt, Some(job)),
-            None => Err(SendError::Disconnected(Some(job))),
+        let Some(jobs) = &self.jobs else {
+            return Err(job);
+        };
+        match jobs.send(rt, Some(job)) {
+            Ok(()) => Ok(()),
+            Err(error) => match error.into_inner() {
+                Some(job) => Err(job),
+                None => unreachable!(),
+            },
         }
     }
 
-    /// Takes a job back that the worker has not begun, if there is one.
+    /// Takes a job back that the worker has not begun, if there is one. A message that ends the
+    /// worker, which another pool of the same workers has sent, is left for it.
     pub(crate) fn take_back<R: Wait>(&self, rt: &R) -> Option<Job<T>> {
-        self.back.as_ref()?.try_recv(rt).ok()?
+        let message = self.back.as_ref()?.try_recv(rt).ok()?;
+        if message.is_none() {
+            self.end(rt);
+        }
+        message
+    }
+
+    /// Sends the message that ends its thread.
+    fn end<R: Wait>(&self, rt: &R) {
+        if let Some(jobs) = &self.jobs {
+            let _ = jobs.send(rt, None);
+        }
     }
 
     /// Tells its thread to end. Joins it, if it was this pool that started it.
@@ -198,9 +238,8 @@ impl<T: Task> Worker<T> {
         ensures { self.new ≡ false }
     {
         self.back = None;
-        if let Some(jobs) = self.jobs.take() {
-            let _ = jobs.send(rt, None);
-        }
+        self.end(rt);
+        self.jobs = None;
         if let Some(thread) = self.thread.take() {
             thread.join(rt);
         }
