@@ -3,10 +3,12 @@ use Rattle.std.specs.Prelude.{◌≡◌, ◌<◌, ◌≤◌, List, [], ◌∷◌
 use Rattle.std.specs.List.{AllZip}
 use Rattle.std.specs.Option.{option_to_list}
 use Rattle.pf_shapes.specs.Scene.{Scene}
+use Rattle.pf_commands.specs.Frame.{decode}
 use Rattle.pf_commands.specs.Merge.{CommandMap, IsCommand, put_all}
 use Rattle.pf_links.specs.Link.{Frame, SameIn, SameOut, got, handed, known}
 use Rattle.pf_links.specs.declared.input.LinkIn.{LinkIn}
 use Rattle.pf_links.specs.declared.output.LinkOut.{LinkOut}
+use Rattle.pf_rollback.specs.Calls.{IsHeld}
 use Rattle.pf_rollback.specs.Peer.{Peer as Player}
 use Rattle.pf_scripts.specs.Frames.{Setting, commands_in, core_setting, refusal_of, with_frames}
 use Rattle.pf_scripts.specs.declared.peer.Peer.{Peer}
@@ -71,7 +73,8 @@ pub record HasPolled (old new : Peer) (frames : List Frame) : Type 0 where
   pub inputs : AllZip IsLaterByOne old.inputs.items new.inputs.items
   pub outputs : new.outputs ≡ old.outputs
 
--- a peer keeps a frame that it does not refuse
+-- a peer keeps a frame that it does not refuse, and whose command's name it does not hold
 abbrev pub KeepsFrame : Peer → Type 0
 KeepsFrame p =
     (frame : Frame) × (p.kept ≡ Some frame) × (refusal_of (setting_of p) frame ≡ None)
+    × ¬ IsHeld (scripted_player p).commands (decode frame)

@@ -33,7 +33,9 @@ pub struct Polled {
 
 impl Peer {
     ghost use Rattle.std.specs.Prelude.{◌≡◌, ◌+◌, ◌<◌, ◌^◌, ◌∷◌, [], All, List, None, Some, IfOk, OnErr, OnOk};
+    ghost use Rattle.pf_commands.specs.Frame.{decode};
     ghost use Rattle.pf_commands.specs.Merge.{IsCommand};
+    ghost use Rattle.pf_rollback.specs.Calls.{IsHeld};
     ghost use Rattle.pf_links.specs.Link.{Frame};
     ghost use Rattle.std.specs.List.{AllZip};
     ghost use Rattle.pf_scripts.specs.Frames.{AreCounts, commands_in, refusal_of, refused_count, with_frames};
@@ -75,6 +77,8 @@ impl Peer {
         ensures refused { let refused = refused_count (setting_of self.old) (frame ∷ []) in
             OnOk result (polled.new.refused ≡ polled.old.refused + refused) }
         ensures memory { OnErr result (refusal_of (setting_of self.old) frame ≡ None) }
+        ensures held { OnErr result
+            (¬ IsHeld (scripted_player self.old).commands (decode frame)) }
         ensures err { OnErr result (self.new.core ≡ self.old.core) }
         ensures again { OnErr result (self.new.kept ≡ Some frame) }
         ensures inputs { self.new.inputs ≡ self.old.inputs }
@@ -95,9 +99,9 @@ impl Peer {
     }
 
     /// Takes the frame that the peer keeps, if there is one, and then from each link the next frame
-    /// that has come. A frame that is refused is counted, and dropped. Out of memory, the frames
-    /// before stay taken, and the frame that found no memory is kept for the next poll. Waits for
-    /// nobody.
+    /// that has come. A frame that is refused is counted, and dropped. A command that is held
+    /// already takes no memory. Out of memory, the frames before stay taken, and the frame that
+    /// found no memory is kept for the next poll. Waits for nobody.
     pub fn poll(&mut self) -> Result<Polled, AllocError>
         ensures polled { (frames : List Frame) × HasPolled self.old self.new frames
             × IfOk result (AreCounts (setting_of self.old) frames) }

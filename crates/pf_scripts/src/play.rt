@@ -31,7 +31,7 @@ fn hand_to_all(outputs: &mut [LinkOut], frame: [u8; FRAME_LEN]) -> Result<(), Al
 }
 
 impl Peer {
-    ghost use Rattle.std.specs.Prelude.{◌≡◌, ◌⊎◌, ◌<◌, ◌≤◌, ◌∷◌, [], IfErr, IfOk, IfSome, None, OnOk, Some, false};
+    ghost use Rattle.std.specs.Prelude.{◌≡◌, ◌⊎◌, ◌<◌, ◌≤◌, ◌∷◌, [], IfErr, IfOk, IfSome, None, OnOk, Some, false, true};
     ghost use Rattle.pf_pool.specs.declared.pool.TheConstants.{MAX_WORKERS};
     ghost use Rattle.pf_rollback.specs.Kept.{settled_tick};
     ghost use Rattle.pf_step.specs.declared.crew.CrewError.TheVariants.{GateShut, OutOfMemory};
@@ -235,11 +235,36 @@ impl Peer {
             IsPeerError (IsCrewErrorOfPlay G.ALWAYS crew) p.player fault
             ⊎ (script_fault (setting_of self) p.player 0 p.reached script.now ≡ Some fault)) }
     {
+        self.play_by_gate(rt, alloc, script, crew, gate, OpenGate)
+    }
+
+    /// As [`Peer::play`], with a gate of the crew's own, which lets each worker through: by it a
+    /// test sees whether the crew settles the ticks.
+    pub fn play_by_gate<R, G, W>(
+        self,
+        rt: R,
+        alloc: Global,
+        script: &[Turn],
+        crew: Option<usize>,
+        gate: &G,
+        crew_gate: W,
+    ) -> Result<Peer, SessionError>
+    where
+        R: Threads + Wait + Copy + Send + 'static,
+        G: Gate,
+        W: Gate + Send + Sync + Drop + 'static,
+        requires crew { IfSome crew (λ workers. (0 < workers) × (workers ≤ MAX_WORKERS)) }
+        requires open { W.ALWAYS ≡ true }
+        ensures played { IfOk result (HasPlayed script.now self) }
+        ensures fault { let p = scripted_player self in IfErr result (λ fault.
+            IsPeerError (IsCrewErrorOfPlay G.ALWAYS crew) p.player fault
+            ⊎ (script_fault (setting_of self) p.player 0 p.reached script.now ≡ Some fault)) }
+    {
         let Some(workers) = crew else {
             return self.play_by(&OneThread, alloc, script, &mut OneThread, gate);
         };
         let player = self.core.player();
-        let Workers { mut crew, collider } = match Workers::start(rt, alloc, workers, OpenGate) {
+        let Workers { mut crew, collider } = match Workers::start(rt, alloc, workers, crew_gate) {
             Ok(workers) => workers,
             Err(error) => return Err(SessionError::Peer(player, error)),
         };

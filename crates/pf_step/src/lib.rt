@@ -5,20 +5,20 @@
 #![tactic(auto)]
 
 mod activity;
+mod any_world;
 mod changes;
 mod commands;
 mod crew;
 pub mod laws;
-mod other_steps;
 mod points;
 mod step;
 mod work;
 mod world;
 
+pub use any_world::{step_alone, step_by, step_on_one_thread, step_with};
 pub use changes::Changes;
 pub use commands::apply;
 pub use crew::{Crew, CrewError, StepError, solve_all};
-pub use other_steps::{step_alone, step_by, step_on_one_thread, step_with};
 pub use step::step_next;
 pub use work::Work;
 pub use world::World;

@@ -1,7 +1,11 @@
-//! How often the workers of a run with a crew are asked.
+//! How often the workers of a crew are asked, in a run and where a peer plays a script.
 
 use pf_program::program_by_gate;
+use pf_scripts::Turn;
+use pf_sessions::linked_peers;
+use pf_shapes::Scene;
 use pf_text::{Bytes, Collected};
+use pf_workers::OpenGate;
 use std::alloc::{AllocError, Global};
 use std::process::ExitCode;
 use std::sync::{Arc, Wait};
@@ -56,5 +60,34 @@ fn a_settle_calls_the_crew_for_each_tick(rt: HostRuntime) -> Result<(), Fail> {
 fn other_lines_do_not_call_the_crew(rt: HostRuntime) -> Result<(), Fail> {
     let (succeeds, noted) = noted(rt, rt.alloc(), "advance 0 3\nshow 0 3\n")?;
     assert!(rt; succeeds && noted.as_str() == " shut 0 passes 0/0 0/0");
+    Ok(())
+}
+
+/// A circle that falls.
+const FALLING: &[u8] = b"gravity 0 -167772160\ncircle 0 16777216 0 16777216 0 0\nend\n";
+
+/// What a crew of two notes, at a gate that counts, while its peer plays a turn of three ticks.
+fn noted_in_a_turn<T: Threads + Wait + Copy + Send + 'static>(
+    rt: T,
+    alloc: Global,
+) -> Result<String, Fail> {
+    let scene = Scene::read(alloc, FALLING)?;
+    let Some(peer) = linked_peers(alloc, &scene, 1)?.pop() else {
+        return Err(Fail::from("no peer"));
+    };
+    let turn = Turn {
+        frames: Vec::new(alloc),
+        ticks: 3,
+    };
+    let book = Arc::new(alloc, Book::new(alloc, 2)?)?;
+    let gate = TrialGate::<true>::new(Rule::Counted, Arc::try_clone(&book)?);
+    let _played = peer.play_by_gate(rt, alloc, &[turn], Some(2), &OpenGate, gate)?;
+    Ok(book.text(alloc)?)
+}
+
+#[test]
+fn a_peer_plays_with_its_crew(rt: HostRuntime) -> Result<(), Fail> {
+    let noted = noted_in_a_turn(rt, rt.alloc())?;
+    assert!(rt; noted.as_str() == " shut 0 passes 3/3 3/3");
     Ok(())
 }

@@ -2,7 +2,7 @@ use Rattle.std.proofs.Common.{subst}
 use Rattle.pf_step.specs.Activity.{islands_of_tick}
 use Rattle.pf_step.specs.Stepping.{FailsBy}
 use Rattle.pf_step.specs.World.{World}
-use Rattle.pf_step.proofs.other_steps.step_copy.Goals as goal
+use Rattle.pf_step.proofs.any_world.step_copy.Goals as goal
 
 pub returns-in-Ok-clause-crew : goal.returns-in-Ok-clause-crew
 returns-in-Ok-clause-crew g c =

@@ -1,4 +1,5 @@
-//! The other steps: of any world, of a copy, and on one thread.
+//! Steps of any world, not only of the one that the last step left: in place, of a copy, and on
+//! one thread.
 
 ghost use Rattle.std.specs.Prelude.{◌≡◌, ◌≢◌, [], Err, length, false, IfErr, IfOk, IsOk, OnErr, OnOk};
 ghost use Rattle.pf_cache.specs.Manifolds.{no_manifolds};
