@@ -1,11 +1,22 @@
 import assert from "node:assert/strict";
 import test from "node:test";
-import { fromHex, Peer, PfError, readFrame, refuses, Scene, sceneOfTwo } from "./common.mjs";
+import {
+  fromHex,
+  metres,
+  Peer,
+  PfError,
+  raw,
+  readFrame,
+  refuses,
+  Scene,
+  sceneOfTwo,
+  toHex,
+} from "./common.mjs";
 
 const at = [0, 0];
 
 test("commands", () => {
-  const peer = new Peer(sceneOfTwo());
+  const peer = new Peer(sceneOfTwo(), { player: 0 });
   refuses("PF_NOT_OWNER", () => peer.push(2, [1, 0]));
   refuses("PF_STATIC_BODY", () => peer.push(0, [1, 0]));
   assert.throws(() => peer.push(0, [1, 0]), {
@@ -21,7 +32,7 @@ test("commands", () => {
 });
 
 test("frames", () => {
-  const peer = new Peer(sceneOfTwo());
+  const peer = new Peer(sceneOfTwo(), { player: 0 });
   refuses("PF_FRAME_SHORT", () => peer.take(new Uint8Array(26)));
   refuses("PF_FRAME_LONG", () => peer.take(new Uint8Array(28)));
   refuses("PF_FRAME_LONG", () => peer.take(new Uint8Array(3000)));
@@ -40,7 +51,7 @@ test("frames", () => {
 
 test("ticks", () => {
   const scene = sceneOfTwo();
-  const [peer, other] = [new Peer(scene), new Peer(scene)];
+  const [peer, other] = [0, 1].map((player) => new Peer(scene, { player }));
   const frame = peer.push(1, [1, 0]);
   refuses("PF_NOT_REACHED", () => peer.world(1));
   refuses("PF_NOT_REACHED", () => peer.seal(1));
@@ -65,8 +76,8 @@ test("scenes and peers", () => {
   assert.equal(scene.bodies.length, 3);
   refuses("PF_BAD_PLAYER", () => new Peer(scene, { player: 8 }));
   refuses("PF_BAD_PLAYER", () => new Peer(scene, { player: 256 }));
-  refuses("PF_BAD_RING", () => new Peer(scene, { ring: 0 }));
-  refuses("PF_BAD_RING", () => new Peer(scene, { ring: 65 }));
+  refuses("PF_BAD_RING", () => new Peer(scene, { player: 0, ring: 0 }));
+  refuses("PF_BAD_RING", () => new Peer(scene, { player: 0, ring: 65 }));
   const full = new Scene();
   for (let body = 0; body < 1024; body++) full.circle({ at: [body * 3, 0], radius: 1 });
   refuses("PF_SCENE_TOO_MANY", () => full.circle({ at, radius: 1 }));
@@ -84,33 +95,100 @@ test("texts, with their lines", () => {
   }
 });
 
-test("arguments of a wrong kind", () => {
+test("a mass that rounds to 0 is refused, and only 0 is static", () => {
+  const scene = new Scene();
+  for (const mass of [1e-9, 2 ** -26, -1e-9, Number.MIN_VALUE, 1n]) {
+    refuses("PF_SCENE_BAD_MASS", () => scene.circle({ at, radius: 1, mass }));
+    refuses("PF_SCENE_BAD_MASS", () => scene.box({ at, half: [1, 1], mass }));
+  }
+  for (const mass of [0, -0, 0n]) scene.circle({ at, radius: 1, mass });
+  assert.deepEqual(scene.bodies.map((body) => body.mass), [0n, 0n, 0n]);
+});
+
+test("arguments of a wrong kind are named", () => {
   const scene = sceneOfTwo();
-  const peer = new Peer(scene);
-  for (const call of [
-    () => peer.push(1, 5),
-    () => peer.push(1, [NaN, 0]),
-    () => peer.push(1, null),
-    () => peer.push(1.5, [0, 0]),
-    () => peer.push("1", [0, 0]),
-    () => peer.advance(-1),
-    () => peer.advance(0.5),
-    () => peer.seal("1"),
-    () => scene.box({ at }),
-    () => scene.circle({ radius: 1 }),
-    () => scene.circle({ at, radius: 1, owner: -1 }),
-    () => scene.box({ at, half: [1, 1], angle: NaN }),
-    () => scene.box({ at, half: [1, 1], angle: 2 ** 21 }),
-    () => peer.take("00"),
-    () => peer.take(new Blob([])),
-    () => readFrame([1, 2, 3]),
-    () => fromHex("0g"),
-    () => fromHex("012"),
-    () => new Peer({}),
-    () => new Peer(peer),
-    () => peer.merge(scene),
-    () => peer.mergeAlone(null),
+  const peer = new Peer(scene, { player: 0 });
+  const size = { at, radius: 1 };
+  for (const [name, call] of [
+    ["impulse", () => peer.push(1, 5)],
+    ["impulse.x", () => peer.push(1, [NaN, 0])],
+    ["impulse.y", () => peer.push(1, { x: 1 })],
+    ["impulse.y", () => peer.push(1, [1, "2"])],
+    ["impulse", () => peer.push(1, null)],
+    ["impulse", () => peer.push(1, [1])],
+    ["impulse", () => peer.push(1, [1, 2, 3])],
+    ["impulse", () => peer.push(1, new Float64Array(3))],
+    ["impulse.x", () => peer.push(1, new DataView(new ArrayBuffer(16)))],
+    ["impulse", () => peer.push(1, "12")],
+    ["body", () => peer.push(1.5, [0, 0])],
+    ["body", () => peer.push("1", [0, 0])],
+    ["body", () => peer.push(1n, [0, 0])],
+    ["impulse", () => peer.turn(1, [1, 0])],
+    ["impulse", () => peer.turn(1)],
+    ["at", () => peer.place(1)],
+    ["ticks", () => peer.advance(-1)],
+    ["ticks", () => peer.advance(0.5)],
+    ["tick", () => peer.seal("1")],
+    ["tick", () => peer.world("1")],
+    ["into", () => peer.world(0, {})],
+    ["into", () => peer.base(peer)],
+    ["from", () => peer.frames(null)],
+    ["number", () => peer.world(0).body("1")],
+    ["other", () => peer.world(0).equals(peer)],
+    ["Scene", () => new Scene([0, -10])],
+    ["Scene", () => new Scene(null)],
+    ["gravity", () => new Scene({ gravity: -10 })],
+    ["box", () => scene.box({ at })],
+    ["circle", () => scene.circle({ radius: 1 })],
+    ["circle", () => scene.circle()],
+    ["circle", () => scene.circle(1)],
+    ["radius", () => scene.circle({ at, radius: "1" })],
+    ["mass", () => scene.circle({ ...size, mass: "1" })],
+    ["mass", () => scene.circle({ ...size, mass: null })],
+    ["friction", () => scene.circle({ ...size, friction: Symbol("f") })],
+    ["owner", () => scene.circle({ ...size, owner: -1 })],
+    ["half.x", () => scene.box({ at, half: { y: 1 } })],
+    ["angle", () => scene.box({ at, half: [1, 1], angle: NaN })],
+    ["angle", () => scene.box({ at, half: [1, 1], angle: 2 ** 21 })],
+    ["direction", () => scene.box({ at, half: [1, 1], direction: 1 })],
+    ["text", () => Scene.read(new TextEncoder().encode("gravity 0 0\nend\n"))],
+    ["frame", () => peer.take("00")],
+    ["frame", () => peer.take(new Blob([]))],
+    ["frame", () => readFrame([1, 2, 3])],
+    ["bytes", () => toHex("00")],
+    ["digits", () => fromHex("0g")],
+    ["digits", () => fromHex("012")],
+    ["digits", () => fromHex(12)],
+    ["value", () => raw("1")],
+    ["value", () => metres(1)],
+    ["scene", () => new Peer({}, { player: 0 })],
+    ["scene", () => new Peer(peer, { player: 0 })],
+    ["Peer", () => new Peer(scene, 0)],
+    ["player", () => new Peer(scene, { player: null })],
+    ["ring", () => new Peer(scene, { player: 0, ring: "16" })],
+    ["other", () => peer.merge(scene)],
+    ["other", () => peer.mergeAlone(null)],
   ]) {
-    assert.throws(call, TypeError, call.toString());
+    const isNamed = (error) => error instanceof TypeError && error.message.startsWith(`${name}: `);
+    assert.throws(call, isNamed, call.toString());
+  }
+  assert.equal(scene.bodies.length, 3);
+  assert.deepEqual(peer.frames(), []);
+});
+
+test("options that are unknown or missing are named", () => {
+  const scene = sceneOfTwo();
+  const take = "at, radius, mass, friction, owner";
+  for (const [message, call] of [
+    [`circle: there is no option raduis: it takes ${take}`, () => scene.circle({ raduis: 1 })],
+    ["circle: the option radius is missing", () => scene.circle({ at })],
+    ["box: the option at is missing", () => scene.box({ half: [1, 1], angle: 1 })],
+    ["Scene: there is no option g: it takes gravity", () => new Scene({ g: [0, 0] })],
+    ["Peer: the option player is missing", () => new Peer(scene)],
+    ["Peer: the option player is missing", () => new Peer(scene, { ring: 8 })],
+    ["impulse: [x, y] or {x, y} is wanted, not Array of length 3", () =>
+      new Peer(scene, { player: 0 }).push(1, [1, 2, 3])],
+  ]) {
+    assert.throws(call, { name: "TypeError", message });
   }
 });
