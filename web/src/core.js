@@ -1,5 +1,7 @@
 /** The physics core as a WebAssembly module: its calls, its memory, and why a call fails. */
 
+import { wrong } from "./arguments.js";
+
 const PF_OK = 0;
 const PF_OUT_OF_MEMORY = 1;
 export const PF_SMALL_BUFFER = 5;
@@ -203,11 +205,12 @@ async function fetched(from) {
     const { readFile } = await import(/** @type {any} */ ("node:fs/promises"));
     return readFile(url);
   }
-  if (typeof Response === "undefined" || !(from instanceof Response)) {
-    return /** @type {BufferSource | WebAssembly.Module} */ (from);
+  if (typeof Response !== "undefined" && from instanceof Response) {
+    if (!from.ok) throw new Error(`buyosen: ${from.url}: ${from.status}`);
+    return from.arrayBuffer();
   }
-  if (!from.ok) throw new Error(`buyosen: ${from.url}: ${from.status}`);
-  return from.arrayBuffer();
+  if (typeof from === "object" && from !== null) return /** @type {any} */ (from);
+  throw wrong("source", "bytes, a WebAssembly.Module, a Response or a URL", from);
 }
 
 const unused = new FinalizationRegistry((/** @type {() => void} */ free) => free());
