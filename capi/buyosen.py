@@ -189,6 +189,7 @@ def _load():
         function = getattr(library, "pf_" + name)
         function.argtypes = [POINTER(_Context), *parameters]
         function.restype = c_uint32
+    library.pf_build.argtypes, library.pf_build.restype = [], ctypes.c_char_p
     for function in (library.pf_error_name, library.pf_error_text):
         function.argtypes = [c_uint32, ctypes.c_char_p, c_size_t, POINTER(c_uint64)]
         function.restype = c_uint32
@@ -203,6 +204,12 @@ def _written(what, code):
 
 
 _LIBRARY = _load()
+
+
+def build():
+    """How much of the library is proved, as pf_build of pf.h says: "proved", "unproved", or "proved
+    for x86-64 Linux" in a library for another machine."""
+    return _LIBRARY.pf_build().decode()
 
 
 class Context:

@@ -153,6 +153,13 @@ class Core {
     return new PfError(code, name, this.written("flat_pf_error_text", code), call, line);
   }
 
+  /** What pf_build of pf.h says. */
+  get build() {
+    const at = this.#exports.pf_build() >>> 0;
+    const bytes = new Uint8Array(this.buffer, at, TEXT_BYTES);
+    return String.fromCharCode(...bytes.subarray(0, bytes.indexOf(0)));
+  }
+
   /**
    * What a call writes about a code.
    * @param {string} call
@@ -172,6 +179,13 @@ export function loaded() {
   if (core === undefined) throw new Error("buyosen: await init() first");
   return core;
 }
+
+/**
+ * How much of the core is proved: "unproved", since its sources were compiled without a proof, or
+ * "proved for x86-64 Linux": its module was proved for that machine, and nothing proves that it was
+ * compiled for WebAssembly rightly.
+ */
+export const build = () => loaded().build;
 
 /**
  * Loads the core, once. Without a source that is buyosen.wasm beside this file, by fetch, or from

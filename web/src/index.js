@@ -24,7 +24,7 @@
  * changed nothing, but what pf.h says of a settle and a seal that are out of memory. An argument of
  * a wrong kind, or an option that is unknown or missing, is a TypeError that names it.
  */
-export { init, initSync, PfError } from "./core.js";
+export { build, init, initSync, PfError } from "./core.js";
 export { FRAME_BYTES, fromHex, readFrame, toHex } from "./frames.js";
 export { direction, metres, ONE, raw, TICKS_PER_SECOND } from "./numbers.js";
 export { Peer } from "./peer.js";

@@ -17,6 +17,12 @@ test("resolvers of each age find the same files", () => {
   }
 });
 
+test("the core says what of it is proved, as the file beside it does", () => {
+  const made = readFileSync(new URL("made", OUT), "utf8");
+  const from = { "unproved": "unproved sources", "proved for x86-64 Linux": "proved module" };
+  assert.ok(made.includes(` compiled from the ${from[own.build()]} of commit `), own.build());
+});
+
 /** A match, whose call is given the package. */
 async function play(buyosen) {
   await buyosen.init();
@@ -27,7 +33,7 @@ async function play(buyosen) {
   peer.push(ball, [6, 0]);
   peer.advance(50);
   peer.settle();
-  return peer.world().hash();
+  return [buyosen.build(), peer.world().hash()].join(" ");
 }
 
 test("the classic script plays where nothing is imported or fetched", async () => {
