@@ -188,8 +188,9 @@ export function loaded() {
 export const build = () => loaded().build;
 
 /**
- * Loads the core, once. Without a source that is buyosen.wasm beside this file, by fetch, or from
- * the disk in node.
+ * Loads the core, once: a later call does nothing. Without a source that is buyosen.wasm beside
+ * this file, by fetch, or from the disk in node. A source of another kind is a TypeError, and bytes
+ * that are no core are the error that WebAssembly has for them.
  * @param {BufferSource | WebAssembly.Module | Response | Promise<Response> | URL | string} [source]
  */
 export async function init(source = new URL("buyosen.wasm", import.meta.url)) {
@@ -204,7 +205,8 @@ export async function init(source = new URL("buyosen.wasm", import.meta.url)) {
  */
 export function initSync(source) {
   if (core !== undefined) return;
-  core = new Core(source instanceof WebAssembly.Module ? source : new WebAssembly.Module(source));
+  const from = object(source);
+  core = new Core(from instanceof WebAssembly.Module ? from : new WebAssembly.Module(from));
 }
 
 /**
@@ -223,8 +225,16 @@ async function fetched(from) {
     if (!from.ok) throw new Error(`buyosen: ${from.url}: ${from.status}`);
     return from.arrayBuffer();
   }
-  if (typeof from === "object" && from !== null) return /** @type {any} */ (from);
-  throw wrong("source", "bytes, a WebAssembly.Module, a Response or a URL", from);
+  return object(/** @type {BufferSource | WebAssembly.Module} */ (from));
+}
+
+/**
+ * Bytes or a module, as they are. What is no object is a TypeError; and WebAssembly sees to others.
+ * @param {BufferSource | WebAssembly.Module} source
+ */
+function object(source) {
+  if (typeof source === "object" && source !== null) return source;
+  throw wrong("source", "bytes, a WebAssembly.Module, a Response or a URL", source);
 }
 
 const unused = new FinalizationRegistry((/** @type {() => void} */ free) => free());

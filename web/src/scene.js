@@ -73,8 +73,11 @@ export class Scene extends Owned {
     return scene;
   }
 
-  /** Adds a circle, and returns its number, which is the same for all peers.
-   * @param {BodyOptions & {radius: Num}} options */
+  /**
+   * Adds a circle, and returns its number, from 0 on, which is the same for all peers. Where the
+   * core refuses it, that is a PfError with a name as "PF_SCENE_BAD_SIZE", and nothing is added.
+   * @param {BodyOptions & {radius: Num}} options the radius in metres, from 1/16 to 1,024
+   */
   circle(options) {
     checkOptions("circle", options, ["at", "radius"], BODY_OPTIONS);
     const { at, radius } = options;
@@ -83,9 +86,12 @@ export class Scene extends Owned {
     return this.#add({ kind: "circle", ...materialOf(options), ...size, ...placed });
   }
 
-  /** Adds a box of these half extents, turned by an angle or into a direction, [cosine, sine], and
-   * returns its number.
-   * @param {BodyOptions & {half: Vector, angle?: number, direction?: Vector}} options */
+  /**
+   * Adds a box, and returns its number, as `circle` does.
+   * @param {BodyOptions & {half: Vector, angle?: number, direction?: Vector}} options its half
+   *   extents in metres, each from 1/16 to 1,024, and how it is turned: by an angle in radians, or
+   *   into a direction, [cosine, sine]; not at all if neither is given
+   */
   box(options) {
     const others = ["angle", "direction", ...BODY_OPTIONS];
     checkOptions("box", options, ["at", "half"], others);

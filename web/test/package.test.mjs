@@ -41,6 +41,7 @@ test("the classic script plays where nothing is imported or fetched", async () =
   vm.runInContext(readFileSync(new URL("buyosen.classic.js", OUT), "utf8"), page);
   const refused = { name: "TypeError", message: /^source: bytes, .* is wanted, not 5$/ };
   await assert.rejects(page.buyosen.init(5), refused);
+  assert.throws(() => page.buyosen.initSync(5), refused);
   assert.deepEqual(Object.keys(page.buyosen).sort(), Object.keys(own).filter(isOfPackage).sort());
   assert.equal(await vm.runInContext(`(${play})(buyosen)`, page), await play(own));
 });
