@@ -11,11 +11,15 @@
         for body in peer.world(20).bodies:
             print(body.x / ONE, body.y / ONE)
 
-Numbers are whole numbers in units of 2^-24, so 1 is ONE; a tick is 1/64 s. A call that fails raises
-Error, which says why, with its code and the code's name; a number that its type in pf.h can't hold
-is a ValueError. The library is the one that the environment's BUYOSEN_LIBRARY names; else the one
-in out/ or out/quick/ beside this file, where capi/build puts it, or in lib/ or bin/ beside its
-folder; else the one that the loader finds.
+Numbers are whole numbers in units of 2^-24, so 1 is ONE; a tick is 1/64 s. A vector is two numbers,
+(x, y). Bytes may be a bytearray or a memoryview, and a scene's text a str, too.
+
+A call that fails raises Error, which says why, with its code and the code's name. A number that its
+type in pf.h can't hold is a ValueError, and an argument of another kind a TypeError.
+
+The library is the one that the environment's BUYOSEN_LIBRARY names; else the one in out/ or
+out/quick/ beside this file, where capi/build puts it, or in lib/ or bin/ beside its folder; else
+the one that the loader finds.
 """
 
 import ctypes
@@ -78,6 +82,25 @@ class _V2(_Numbers):
 
 class _Material(_Numbers):
     _fields_ = [("mass", c_int64), ("friction", c_int64), ("owner", c_uint8)]
+
+
+def _vector(value, what):
+    """Two numbers, (x, y), of the argument of this name."""
+    try:
+        x, y = value
+    except (TypeError, ValueError):
+        x = y = None
+    if not (isinstance(x, int) and isinstance(y, int)):
+        raise TypeError(f"{what}: two whole numbers, (x, y), are wanted, not {value!r}")
+    return _V2(x, y)
+
+
+def _bytes(value, what):
+    """The bytes of the argument of this name."""
+    try:
+        return bytes(memoryview(value))
+    except TypeError:
+        raise TypeError(f"{what}: bytes are wanted, not {type(value).__name__}") from None
 
 
 class _Sizes(ctypes.Structure):
@@ -166,6 +189,7 @@ def _load():
         function = getattr(library, "pf_" + name)
         function.argtypes = [POINTER(_Context), *parameters]
         function.restype = c_uint32
+    library.pf_build.argtypes, library.pf_build.restype = [], ctypes.c_char_p
     for function in (library.pf_error_name, library.pf_error_text):
         function.argtypes = [c_uint32, ctypes.c_char_p, c_size_t, POINTER(c_uint64)]
         function.restype = c_uint32
@@ -180,6 +204,12 @@ def _written(what, code):
 
 
 _LIBRARY = _load()
+
+
+def build():
+    """How much of the library is proved, as pf_build of pf.h says: "proved", "unproved", or "proved
+    for x86-64 Linux" in a library for another machine."""
+    return _LIBRARY.pf_build().decode()
 
 
 class Context:
@@ -214,6 +244,7 @@ class Context:
 
     def read_scene(self, text):
         """The scene that a text describes: the lines from `gravity` to `end`."""
+        text = text.encode() if isinstance(text, str) else _bytes(text, "text")
         key, line = _Key(), c_uint64()
         try:
             self.call("scene_read", text, len(text), byref(key), byref(line))
@@ -223,7 +254,7 @@ class Context:
 
     def scene(self, gravity):
         """A scene without bodies."""
-        return Scene(self, self.output(_Key, "scene_new", _V2(*gravity)))
+        return Scene(self, self.output(_Key, "scene_new", _vector(gravity, "gravity")))
 
 
 class Scene:
@@ -233,14 +264,16 @@ class Scene:
     def circle(self, mass, friction, radius, position, owner=NOBODY):
         """Adds a circle, and returns its number."""
         material = _Material(mass, friction, owner)
-        arguments = (self._key, material, radius, _V2(*position))
+        arguments = (self._key, material, radius, _vector(position, "position"))
         return self._context.output(c_uint64, "scene_add_circle", *arguments).value
 
     def box(self, mass, friction, half, position, direction=(ONE, 0), owner=NOBODY):
         """Adds a box, and returns its number."""
         material = _Material(mass, friction, owner)
-        arguments = (self._key, material, _V2(*half), _V2(*position), _V2(*direction))
-        return self._context.output(c_uint64, "scene_add_box", *arguments).value
+        vectors = {"half": half, "position": position, "direction": direction}
+        arguments = (_vector(value, what) for what, value in vectors.items())
+        key = self._key
+        return self._context.output(c_uint64, "scene_add_box", key, material, *arguments).value
 
     def peer(self, player=0, ring=16):
         """A peer of this scene."""
@@ -260,7 +293,7 @@ class Peer:
 
     def push(self, body, impulse):
         """Issues a push, and returns its frame."""
-        return bytes(self._output(_Frame, "push", body, _V2(*impulse)))
+        return bytes(self._output(_Frame, "push", body, _vector(impulse, "impulse")))
 
     def turn(self, body, impulse):
         """Issues a turn, and returns its frame."""
@@ -272,10 +305,11 @@ class Peer:
 
     def place(self, body, position):
         """Issues a place, and returns its frame."""
-        return bytes(self._output(_Frame, "place", body, _V2(*position)))
+        return bytes(self._output(_Frame, "place", body, _vector(position, "position")))
 
     def take(self, frame):
         """Takes a frame, and returns what it did: new, same, greater or lesser."""
+        frame = _bytes(frame, "frame")
         return PUTS[self._output(c_uint32, "take", frame, len(frame)).value]
 
     def merge(self, other):

@@ -572,6 +572,7 @@ static void peer_limits(void) {
 /* The library's version, and names and texts of all codes as strings. */
 static void strings(void) {
     EXPECT(pf_version(), PF_VERSION);
+    EXPECT(strcmp(pf_build(), BUILD), 0); /* as capi/check has it */
     for (uint32_t code = 0; code <= PF_NOT_OWNER + 1; code++) {
         char name[PF_NAME_LEN];
         uint64_t needed;

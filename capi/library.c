@@ -1,5 +1,6 @@
 /* What of the library is written in C, around the module that is proved: the mode in which the
- * processor rounds, of which no contract speaks, the version, and the names of codes as strings. */
+ * processor rounds, of which no contract speaks, the version, what is proved, and the names of
+ * codes as strings. */
 #include "pf.h"
 
 /* The calls of the module. capi/build gives them these names. */
@@ -25,6 +26,13 @@ pf_code pf_peer_new(pf_context *context, pf_scene scene, uint8_t player, uint32_
 }
 
 uint32_t pf_version(void) { return PF_VERSION; }
+
+/* capi/build says what it is: it knows which module this is linked with. */
+#ifndef PF_BUILD
+#error "PF_BUILD is the string that pf_build returns"
+#endif
+
+const char *pf_build(void) { return PF_BUILD; }
 
 /* Each code, and what it means. */
 #define CODES(CODE)                                                                                \

@@ -196,6 +196,13 @@ typedef struct pf_counts {
 /* The version of the library, as PF_VERSION has that of the header: 0.1.0 is 0x000100. */
 uint32_t pf_version(void);
 
+/* How much of the library is proved:
+ * "proved": its module, which all calls go to, was proved for this machine;
+ * "proved for x86-64 Linux": it was proved for that machine, and then compiled for this one, which
+ *     nothing proves;
+ * "unproved": nothing is: the sources were compiled without a proof. */
+const char *pf_build(void);
+
 /* The name of a code, as "PF_BAD_KEY", and what it means, as "the key names nothing". Of a number
  * that is no code both are empty. */
 const char *pf_code_name(uint32_t code);

@@ -11,8 +11,6 @@ import sys
 
 sys.dont_write_bytecode = True
 
-from buyosen import Context  # noqa: E402
-
 BODY = ("x", "y", "c", "s", "vx", "vy", "spin", "timer", "awake")
 CONTACT = ("a", "b", "feature", "normal", "tangent")
 
@@ -28,6 +26,8 @@ def statics(scene):
 
 
 def replay(match, tick):
+    from buyosen import Context  # here, since it needs the library
+
     lines = match.splitlines(keepends=True)
     ends = (number for number, line in enumerate(lines) if line.split() == [b"end"])
     end = next(ends, len(lines))
@@ -50,9 +50,19 @@ def replay(match, tick):
     yield "end"
 
 
-if __name__ == "__main__":
-    if len(sys.argv) != 3 or not sys.argv[2].isdecimal():
-        sys.exit(__doc__)
-    with open(sys.argv[1], "rb") as file:
-        for line in replay(file.read(), int(sys.argv[2])):
+def main():
+    words = sys.argv[1:]
+    if words in (["--help"], ["-h"]):
+        print(__doc__.strip())
+        return 0
+    if len(words) != 2 or not words[1].isdecimal():
+        print(__doc__.strip(), file=sys.stderr)
+        return 2
+    with open(words[0], "rb") as file:
+        for line in replay(file.read(), int(words[1])):
             print(line)
+    return 0
+
+
+if __name__ == "__main__":
+    sys.exit(main())

@@ -4,13 +4,17 @@
     capi/test_buyosen.py
 """
 
+import os
+import subprocess
 import sys
 import unittest
+from pathlib import Path
 
 sys.dont_write_bytecode = True
 
 from buyosen import FRAME_LEN, NOBODY, ONE, Context, Error  # noqa: E402
 
+REPLAY = Path(__file__).resolve().parent / "replay.py"
 BAD_KEY, BAD_NUMBER, CLOSED, BAD_LINE, TOO_OLD = 4, 8, 3, 16, 35
 
 
@@ -79,6 +83,41 @@ class Calls(unittest.TestCase):
         ):
             self.assertRaises(ValueError, call, *numbers)
 
+    def test_no_component_is_dropped(self):
+        peer = self.scene.peer()
+        for what, call, *arguments in (
+            ("impulse", peer.push, self.box, (5,)),
+            ("impulse", peer.push, self.box, (5, 6, 7)),
+            ("impulse", peer.push, self.box, 5),
+            ("impulse", peer.push, self.box, (0.5, 1)),
+            ("impulse", peer.push, self.box, "12"),
+            ("position", peer.place, self.box, (1, 2, 3)),
+            ("gravity", self.context.scene, (1,)),
+            ("position", self.scene.circle, ONE, 0, ONE, ()),
+            ("half", self.scene.box, ONE, 0, (ONE,), (0, 0)),
+            ("direction", self.scene.box, ONE, 0, (ONE, ONE), (0, 0), (ONE, 0, 0)),
+        ):
+            told = rf"^{what}: two whole numbers, \(x, y\), are wanted, not "
+            self.assertRaisesRegex(TypeError, told, call, *arguments)
+        self.assertEqual(peer.frames(), [])
+        self.assertEqual(len(peer.push(self.box, [5, 6])), FRAME_LEN)
+
+    def test_bytes_are_of_any_kind(self):
+        peer, late = self.scene.peer(0), self.scene.peer(1)
+        frame = peer.push(self.box, (ONE, 0))
+        self.assertEqual(late.take(bytearray(frame)), "new")
+        self.assertEqual(late.take(memoryview(b"-" + frame)[1:]), "same")
+        text = b"gravity 0 0\nend\n"
+        for scene in text, bytearray(text), memoryview(text), text.decode():
+            self.assertEqual(self.context.read_scene(scene).peer().reached, 0)
+        for what, call, argument in (
+            ("frame", late.take, frame.hex()),
+            ("frame", late.take, FRAME_LEN),
+            ("text", self.context.read_scene, None),
+        ):
+            told = f"^{what}: bytes are wanted, not {type(argument).__name__}$"
+            self.assertRaisesRegex(TypeError, told, call, argument)
+
     def test_frames_are_read_back(self):
         peer, late = self.scene.peer(0), self.scene.peer(1)
         frames = [peer.turn(self.box, ONE), peer.stop(self.box)]
@@ -116,6 +155,20 @@ class Calls(unittest.TestCase):
         with Context() as context:
             foreign = context.scene((0, 0)).peer()
             self.assertRaises(ValueError, self.scene.peer().merge, foreign)
+
+
+class Replay(unittest.TestCase):
+    def replay(self, *words):
+        environment = {**os.environ, "BUYOSEN_LIBRARY": "/there/is/none.so"}
+        call = [sys.executable, REPLAY, *words]
+        return subprocess.run(call, env=environment, capture_output=True, text=True, check=False)
+
+    def test_it_tells_its_usage_without_a_library(self):
+        helped, misused = self.replay("--help"), self.replay("match.txt")
+        self.assertEqual((helped.returncode, helped.stderr), (0, ""))
+        self.assertIn("capi/replay.py MATCH.txt TICK", helped.stdout)
+        self.assertEqual((misused.returncode, misused.stdout), (2, ""))
+        self.assertEqual(misused.stderr, helped.stdout)
 
 
 def bytes_of(peer):

@@ -24,12 +24,12 @@ await init();
 const ticks = Number(process.argv[2]);
 const scene = Scene.read(readFileSync(0, "utf8"));
 const settle = least(1, () => {
-  const peer = new Peer(scene);
+  const peer = new Peer(scene, { player: 0 });
   peer.advance(ticks);
   peer.settle();
   peer.free();
 });
-const peer = new Peer(scene);
+const peer = new Peer(scene, { player: 0 });
 peer.advance(ticks);
 peer.settle();
 const world = least(WORLDS, () => peer.world(ticks));

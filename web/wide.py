@@ -2,7 +2,7 @@
 that has 32.
 
 A pointer in memory stays 8 bytes wide, of which the low 4 are the address: so sizes, offsets and
-usize stay those of the proof. A form of load or store that is not known here ends it.
+usize stay those of the proof. A line that has a pointer in a way that is not known here ends it.
 """
 
 import re
@@ -16,19 +16,44 @@ LOAD = re.compile(rf"(\s+)(\S+) = load ptr, ptr (\S+?){END}")
 STORE = re.compile(rf"(\s+)store ptr (\S+), ptr (\S+?){END}")
 LOAD_STRUCT = re.compile(rf"(\s+)(\S+) = load ({STRUCT}), ptr (\S+?){END}")
 STORE_STRUCT = re.compile(rf"(\s+)store ({STRUCT}) (\S+), ptr (\S+?){END}")
-# What else holds pointers in memory: the kind, and for a store the value, of a load or store; a
-# global variable; the kind that an address is counted in.
-OTHERS = [
-    re.compile(r"\s+\S+ = load (?:atomic |volatile )*(.*?), ptr "),
-    re.compile(r"\s+store (?:atomic |volatile )*(.*), ptr \S+"),
-    re.compile(r"\s+\S+ = alloca (.*)"),
-    re.compile(r"\s+\S+ = getelementptr (?:inbounds |nuw |nusw )*(.*?), ptr "),
-    re.compile(r"@\S+ = (.*)"),
+SLOT = re.compile(r"(\s+\S+ = alloca )ptr(, align \d+\n)")
+
+# What lines are made of: a value; a number; a kind that has no pointer in it, so that it takes the
+# same room in memory; a kind of a register, which is as wide as the machine has it; and what a
+# function is given.
+VALUE = r"(?:%[\w.$-]+|@[\w.$-]+|-?\d+|null|true|false|undef|poison)"
+NUMBER = r"(?:i\d+|double)"
+CONSTANT = rf"(?:{VALUE}|-?\d+\.\d+e[+-]\d+|0x\w+|zeroinitializer|splat \({NUMBER} \S+\))"
+KIND = rf"(?:{NUMBER}|<\d+ x {NUMBER}>|\[\d+ x {NUMBER}\]|\{{ ?{NUMBER}(?:, {NUMBER})* ?\}})"
+FIELD = rf"(?:{NUMBER}|ptr)"
+IN_REGISTER = rf"(?:{FIELD}|<\d+ x {NUMBER}>|\{{ ?{FIELD}(?:, {FIELD})* ?\}})"
+HOW = rf"(?: [a-z]+(?:\((?:{KIND}|none)\))?)*(?: align \d+)?"
+GIVEN = rf"{IN_REGISTER}{HOW}(?: {CONSTANT})?"
+FUNCTION = rf"(?:void|{IN_REGISTER}) {VALUE}\((?:{GIVEN}(?:, {GIVEN})*)?\)"
+# The lines with pointers that stay as they are.
+KNOWN = [
+    rf"{VALUE} = alloca {KIND}",
+    rf"{VALUE} = load {KIND}, ptr {VALUE}",
+    rf"store {KIND} {CONSTANT}, ptr {VALUE}",
+    rf"{VALUE} = getelementptr (?:inbounds |nuw |nusw )*{KIND}, ptr {VALUE}, i64 {VALUE}",
+    rf"{VALUE} = extractvalue {IN_REGISTER} {VALUE}, \d+",
+    rf"{VALUE} = insertvalue {IN_REGISTER} {VALUE}, {IN_REGISTER} {VALUE}, \d+",
+    rf"{VALUE} = icmp \w+ ptr {VALUE}, {VALUE}",
+    rf"{VALUE} = select i1 {VALUE}, ptr {VALUE}, ptr {VALUE}",
+    rf"{VALUE} = ptrto(?:int|addr) ptr {VALUE} to i\d+",
+    rf"{VALUE} = inttoptr i64 {VALUE} to ptr",
+    rf"ret {IN_REGISTER} {VALUE}",
+    rf"(?:{VALUE} = )?call {FUNCTION}",
+    rf"(?:define|declare)(?: [a-z_]+)*? {FUNCTION}(?: [a-z]+)*",
 ]
+TAIL = r"(?: #\d+)?(?: \{)?(?:, align \d+)?(?:, ![a-z_.]+ !\d+)*\s*"
+STAYS = re.compile(rf"\s*(?:{'|'.join(KNOWN)}){TAIL}")
+# Names that stand in quotes, and comments, may be anything.
+NAMES = re.compile(r'"[^"]*"|;.*')
 
 
 class UnknownForm(Exception):
-    """A line that holds a pointer in memory in a way that is not known here."""
+    """A line that has a pointer in a way that is not known here."""
 
 
 class Widener:
@@ -86,12 +111,13 @@ class Widener:
             found = form.fullmatch(line)
             if found:
                 return make(*found.groups())
-        line = re.sub(r" = alloca ptr\b", " = alloca i64", line)
-        for form in OTHERS:
-            found = form.match(line)
-            if found and re.search(r"\bptr\b", found[1]):
-                raise UnknownForm(line)
-        return [line.replace("ptrtoaddr", "ptrtoint")]
+        slot = SLOT.fullmatch(line)
+        if slot:
+            return [f"{slot[1]}i64{slot[2]}"]
+        bare = NAMES.sub("Q", line)
+        if re.search(r"\bptr", bare) and not STAYS.fullmatch(bare):
+            raise UnknownForm(line.strip())
+        return [line.replace(" = ptrtoaddr ptr ", " = ptrtoint ptr ")]
 
 
 def fields_of(struct):
@@ -110,4 +136,4 @@ def widened(module):
         lines = module.splitlines(keepends=True)
         return "".join(it for line in lines for it in widener.lines(line))
     except UnknownForm as error:
-        sys.exit(f"wide: a form that is not known: {error}")
+        sys.exit(f"wide: this line has a pointer in a way that is not known here: {error}")

@@ -1,6 +1,7 @@
 /** The page: its time, its controls, and what it tells. */
 
-import { init, TICKS_PER_SECOND } from "../src/index.js";
+import { init } from "../classic.js";
+import { TICKS_PER_SECOND } from "../src/index.js";
 import { readColours } from "./canvas.js";
 import { Match } from "./match.js";
 import { Pane } from "./pane.js";
@@ -262,19 +263,9 @@ function connectTheme() {
   show();
 }
 
-/** The core that stands in the page, deflated. */
-async function core() {
-  const digits = find("core").textContent.trim();
-  const bytes = Uint8Array.from(atob(digits), (letter) => letter.charCodeAt(0));
-  const { DecompressionStream } = /** @type {any} */ (globalThis);
-  const inflated = new Blob([bytes]).stream().pipeThrough(new DecompressionStream("deflate"));
-  return new Response(inflated).arrayBuffer();
-}
-
-connectTheme();
-if (matchMedia("(prefers-reduced-motion: reduce)").matches) find("bots").checked = false;
-try {
-  await init(await core());
+/** Plays, once the core is there. */
+async function begin() {
+  await init();
   const page = new Page();
   connect(page);
   page.start();
@@ -284,7 +275,11 @@ try {
     page.frame(time);
   };
   requestAnimationFrame(frame);
-} catch (error) {
+}
+
+connectTheme();
+if (matchMedia("(prefers-reduced-motion: reduce)").matches) find("bots").checked = false;
+begin().catch((error) => {
   find("same").classList.add("bad");
   find("verdict").textContent = `This browser cannot run the core: ${error}`;
-}
+});

@@ -64,8 +64,8 @@ export class Side {
   constructor(scene, player) {
     this.player = player;
     this.peer = new Peer(scene, { player, ring: 64 });
-    this.now = this.peer.world(0, new World());
-    this.before = this.peer.world(0, new World());
+    this.now = this.peer.world(0);
+    this.before = this.peer.world(0);
     this.base = new World();
   }
 
@@ -84,7 +84,7 @@ export class Side {
   }
 
   free() {
-    for (const it of [this.peer, this.before, this.now, this.base]) it.free();
+    this.peer.free();
   }
 }
 

@@ -1,5 +1,7 @@
 /** The physics core as a WebAssembly module: its calls, its memory, and why a call fails. */
 
+import { wrong } from "./arguments.js";
+
 const PF_OK = 0;
 const PF_OUT_OF_MEMORY = 1;
 export const PF_SMALL_BUFFER = 5;
@@ -151,6 +153,13 @@ class Core {
     return new PfError(code, name, this.written("flat_pf_error_text", code), call, line);
   }
 
+  /** What pf_build of pf.h says. */
+  get build() {
+    const at = this.#exports.pf_build() >>> 0;
+    const bytes = new Uint8Array(this.buffer, at, TEXT_BYTES);
+    return String.fromCharCode(...bytes.subarray(0, bytes.indexOf(0)));
+  }
+
   /**
    * What a call writes about a code.
    * @param {string} call
@@ -172,8 +181,16 @@ export function loaded() {
 }
 
 /**
- * Loads the core, once. Without a source that is buyosen.wasm beside this file, by fetch, or from
- * the disk in node.
+ * How much of the core is proved: "unproved", since its sources were compiled without a proof, or
+ * "proved for x86-64 Linux": its module was proved for that machine, and nothing proves that it was
+ * compiled for WebAssembly rightly.
+ */
+export const build = () => loaded().build;
+
+/**
+ * Loads the core, once: a later call does nothing. Without a source that is buyosen.wasm beside
+ * this file, by fetch, or from the disk in node. A source of another kind is a TypeError, and bytes
+ * that are no core are the error that WebAssembly has for them.
  * @param {BufferSource | WebAssembly.Module | Response | Promise<Response> | URL | string} [source]
  */
 export async function init(source = new URL("buyosen.wasm", import.meta.url)) {
@@ -188,7 +205,8 @@ export async function init(source = new URL("buyosen.wasm", import.meta.url)) {
  */
 export function initSync(source) {
   if (core !== undefined) return;
-  core = new Core(source instanceof WebAssembly.Module ? source : new WebAssembly.Module(source));
+  const from = object(source);
+  core = new Core(from instanceof WebAssembly.Module ? from : new WebAssembly.Module(from));
 }
 
 /**
@@ -203,11 +221,20 @@ async function fetched(from) {
     const { readFile } = await import(/** @type {any} */ ("node:fs/promises"));
     return readFile(url);
   }
-  if (typeof Response === "undefined" || !(from instanceof Response)) {
-    return /** @type {BufferSource | WebAssembly.Module} */ (from);
+  if (typeof Response !== "undefined" && from instanceof Response) {
+    if (!from.ok) throw new Error(`buyosen: ${from.url}: ${from.status}`);
+    return from.arrayBuffer();
   }
-  if (!from.ok) throw new Error(`buyosen: ${from.url}: ${from.status}`);
-  return from.arrayBuffer();
+  return object(/** @type {BufferSource | WebAssembly.Module} */ (from));
+}
+
+/**
+ * Bytes or a module, as they are. What is no object is a TypeError; and WebAssembly sees to others.
+ * @param {BufferSource | WebAssembly.Module} source
+ */
+function object(source) {
+  if (typeof source === "object" && source !== null) return source;
+  throw wrong("source", "bytes, a WebAssembly.Module, a Response or a URL", source);
 }
 
 const unused = new FinalizationRegistry((/** @type {() => void} */ free) => free());

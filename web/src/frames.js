@@ -1,5 +1,6 @@
 /** Frames: commands as peers send them. */
 
+import { wrong } from "./arguments.js";
 import {
   loaded,
   PF_FRAME_BAD_KIND,
@@ -16,11 +17,12 @@ const VERSIONS = { push: 1, turn: 1, stop: 1, place: 2 };
 /**
  * The bytes of a frame as it has come, without a copy.
  * @param {Uint8Array | ArrayBuffer} frame
+ * @param {string} [what] the name that an error gives it
  */
-export function bytesOf(frame) {
+export function bytesOf(frame, what = "frame") {
   if (frame instanceof Uint8Array) return frame;
   if (frame instanceof ArrayBuffer) return new Uint8Array(frame);
-  throw new TypeError("a frame is a Uint8Array or an ArrayBuffer");
+  throw wrong(what, "a Uint8Array or an ArrayBuffer", frame);
 }
 
 /**
@@ -52,15 +54,20 @@ export function readFrame(frame) {
 
 /**
  * Bytes as the hexadecimal digits that the texts of docs/FORMATS.md have.
- * @param {Uint8Array} of
+ * @param {Uint8Array | ArrayBuffer} bytes
  */
-export const toHex = (of) => Array.from(of, (byte) => byte.toString(16).padStart(2, "0")).join("");
+export function toHex(bytes) {
+  const pairs = Array.from(bytesOf(bytes, "bytes"), (byte) => byte.toString(16).padStart(2, "0"));
+  return pairs.join("");
+}
 
 /**
  * The bytes of hexadecimal digits, two a byte.
  * @param {string} digits
  */
 export function fromHex(digits) {
-  if (!/^([0-9a-f]{2})*$/i.test(digits)) throw new TypeError("digits are hexadecimal, two a byte");
+  if (typeof digits !== "string" || !/^([0-9a-f]{2})*$/i.test(digits)) {
+    throw wrong("digits", "a string of hexadecimal digits, two a byte,", digits);
+  }
   return Uint8Array.from(digits.match(/../g) ?? [], (pair) => parseInt(pair, 16));
 }

@@ -17,13 +17,14 @@
  * Peers made of the same scene that have taken the same commands show the same worlds, bit for bit.
  *
  * A JS number is in metres, seconds, kilograms and radians, and becomes a whole number in units of
- * 2^-24, the nearest one; a BigInt is such a whole number itself. A vector is [x, y] or {x, y}.
+ * 2^-24, the nearest one; a BigInt is such a whole number itself. A vector is [x, y], a typed array
+ * of length 2, or {x, y}.
  *
  * A call that the core refuses throws a PfError with a name of pf.h, as "PF_NOT_OWNER". It has
  * changed nothing, but what pf.h says of a settle and a seal that are out of memory. An argument of
- * a wrong kind is a TypeError.
+ * a wrong kind, or an option that is unknown or missing, is a TypeError that names it.
  */
-export { init, initSync, PfError } from "./core.js";
+export { build, init, initSync, PfError } from "./core.js";
 export { FRAME_BYTES, fromHex, readFrame, toHex } from "./frames.js";
 export { direction, metres, ONE, raw, TICKS_PER_SECOND } from "./numbers.js";
 export { Peer } from "./peer.js";

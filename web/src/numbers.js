@@ -1,7 +1,10 @@
 /** Numbers: JS numbers are metres, seconds, kilograms and radians; BigInts are units of 2^-24. */
 
+import { wrong } from "./arguments.js";
+
 /** @typedef {number | bigint} Num */
-/** @typedef {readonly [Num, Num] | {readonly x: Num, readonly y: Num}} Vector */
+/** @typedef {Float64Array | Float32Array | BigInt64Array} Pair a typed array of length 2 */
+/** @typedef {readonly [Num, Num] | Pair | {readonly x: Num, readonly y: Num}} Vector */
 
 /** 1, in units of 2^-24. */
 export const ONE = 2 ** 24;
@@ -12,52 +15,59 @@ const BEYOND = 2n ** 62n;
 
 /**
  * A number in units of 2^-24, the nearest one; a BigInt is such a number itself. One that is too
- * large for 64 bits is some number that the core refuses.
+ * large for 64 bits is some number that the core refuses. NaN, and what is no number, is a
+ * TypeError.
  * @param {Num} value
+ * @param {string} [what] the name that the error gives it
  */
-export function raw(value) {
+export function raw(value, what = "value") {
   if (typeof value === "bigint") {
     return value > BEYOND ? BEYOND : value < -BEYOND ? -BEYOND : value;
   }
-  if (typeof value !== "number" || Number.isNaN(value)) {
-    throw new TypeError(`not a number: ${value}`);
-  }
+  if (typeof value !== "number" || Number.isNaN(value)) throw wrong(what, "a number", value);
   const units = Math.round(value * ONE); // the product is exact
   if (Math.abs(units) > Number(BEYOND)) return units > 0 ? BEYOND : -BEYOND;
   return BigInt(units);
 }
 
 /**
- * Units of 2^-24 as a number in metres, the nearest one.
+ * Units of 2^-24 as a number in metres, the nearest one. What is no BigInt is a TypeError.
  * @param {bigint} value
  */
-export const metres = (value) => Number(value) / ONE;
-
-/** @param {{x: Num, y: Num} | undefined} value */
-const xyOf = (value) => [value?.x, value?.y];
-
-/**
- * @param {Vector} value
- * @param {string} what
- * @returns {[bigint, bigint]}
- */
-export function rawVector(value, what) {
-  const [x, y] = Array.isArray(value) ? value : xyOf(/** @type {any} */ (value));
-  if (x === undefined || y === undefined) {
-    throw new TypeError(`${what}: [x, y] is wanted, not ${value}`);
-  }
-  return [raw(x), raw(y)];
+export function metres(value) {
+  if (typeof value !== "bigint") throw wrong("value", "a BigInt", value);
+  return Number(value) / ONE;
 }
 
 /**
- * A count, or the greatest one if it is beyond that.
- * @param {number} greatest
- * @param {string} what
+ * Whether it is an array, or a typed one.
+ * @param {any} value
+ */
+const isList = (value) => Array.isArray(value) || (ArrayBuffer.isView(value) && "length" in value);
+
+/**
+ * A vector in units of 2^-24. What is none is a TypeError.
+ * @param {Vector} value
+ * @param {string} what the name that the error gives it
+ * @returns {[bigint, bigint]}
+ */
+export function rawVector(value, what) {
+  const given = /** @type {any} */ (value);
+  const isVector = isList(given) ? given.length === 2 : typeof given === "object" && given !== null;
+  if (!isVector) throw wrong(what, "[x, y] or {x, y}", value);
+  const [x, y] = isList(given) ? given : [given.x, given.y];
+  return [raw(x, `${what}.x`), raw(y, `${what}.y`)];
+}
+
+/**
+ * A count, or the greatest one if it is beyond that. What is no count is a TypeError.
  * @param {number} value
+ * @param {number} greatest
+ * @param {string} what the name that the error gives it
  */
 export function count(value, greatest, what) {
-  if (!Number.isInteger(value) || value < 0) throw new TypeError(`${what}: no whole number from 0 on: ${value}`);
-  return Math.min(value, greatest);
+  if (Number.isInteger(value) && value >= 0) return Math.min(value, greatest);
+  throw wrong(what, "a whole number from 0 on", value);
 }
 
 export const GREATEST_U8 = 2 ** 8 - 1;
@@ -80,7 +90,7 @@ const GREATEST_ANGLE = 2 ** 20;
  */
 export function direction(angle) {
   if (typeof angle !== "number" || !(Math.abs(angle) <= GREATEST_ANGLE)) {
-    throw new TypeError(`not an angle from -2^20 to 2^20: ${angle}`);
+    throw wrong("angle", "a number from -2^20 to 2^20", angle);
   }
   const quarters = Math.round(angle / (QUARTER_TURN[0] + QUARTER_TURN[1]));
   const rest = angle - quarters * QUARTER_TURN[0] - quarters * QUARTER_TURN[1];

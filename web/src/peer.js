@@ -1,5 +1,6 @@
 /** One side of a match. */
 
+import { checkOptions, wrong } from "./arguments.js";
 import { loaded, Owned, PF_SMALL_BUFFER } from "./core.js";
 import { bytesOf, FRAME_BYTES } from "./frames.js";
 import { count, GREATEST_U16, GREATEST_U32, GREATEST_U8, raw, rawVector } from "./numbers.js";
@@ -15,23 +16,30 @@ const GREATEST_LENGTH = 64;
 
 /** @param {Peer} peer */
 function keyOf(peer) {
-  if (!(peer instanceof Peer)) throw new TypeError("other: a Peer is wanted");
+  if (!(peer instanceof Peer)) throw wrong("other", "a Peer", peer);
   return peer.key;
+}
+
+/** @param {World} into */
+function fillable(into) {
+  if (!(into instanceof World)) throw wrong("into", "a World", into);
+  return into;
 }
 
 /** Holds the commands that a player issues and takes, and simulates the match. */
 export class Peer extends Owned {
-  #world = new World();
-
   /**
    * @param {Scene} scene which is copied
-   * @param {{player?: number, ring?: number}} options the player, 0 to 7; and how many of the
-   *   last worlds are kept, 1 to 64: a frame that is late by fewer ticks costs only the ticks since
-   *   its own
+   * @param {{player: number, ring?: number}} options the player, 0 to 7, which has to be given:
+   *   where two peers of a match issue as one player, commands get lost; and how many of the last
+   *   worlds are kept, 1 to 64, or 16 if it is not given: a frame that is late by fewer ticks costs
+   *   only the ticks since its own
    */
-  constructor(scene, { player = 0, ring = 16 } = {}) {
+  constructor(scene, options) {
     super();
-    if (!(scene instanceof Scene)) throw new TypeError("scene: a Scene is wanted");
+    if (!(scene instanceof Scene)) throw wrong("scene", "a Scene", scene);
+    checkOptions("Peer", options, ["player"], ["ring"]);
+    const { player, ring = 16 } = options;
     const core = loaded();
     this.player = count(player, GREATEST_U8, "player");
     this.ring = count(ring, GREATEST_U32, "ring");
@@ -58,7 +66,7 @@ export class Peer extends Owned {
    * @param {Num} impulse
    */
   turn(body, impulse) {
-    return this.#issue("turn", body, raw(impulse));
+    return this.#issue("turn", body, raw(impulse, "impulse"));
   }
 
   /**
@@ -175,24 +183,24 @@ export class Peer extends Owned {
   }
 
   /**
-   * The world at a tick, the reached one if none is given. Where no world is given to be filled,
-   * the peer's own is filled, and the next such call fills it again.
-   * @param {number} [tick]
-   * @param {World} [into]
+   * The world at a tick, the reached one if none is given. It is a copy: what the peer does later
+   * does not change it, and each call makes another one, unless a world is given to be filled.
+   * @param {number} [tick] from the horizon to the reached one
+   * @param {World} [into] which loses what it had; where the call fails it stays as it was
    */
-  world(tick = this.reached, into = this.#world) {
+  world(tick = this.reached, into = new World()) {
     const at = count(tick, GREATEST_U32, "tick");
-    return into.fill(tick, "peer_world", (...buffers) =>
+    return fillable(into).fill(tick, "peer_world", (...buffers) =>
       loaded().code("peer_world", ...this.key, at, ...buffers),
     );
   }
 
   /**
-   * The world at the horizon.
-   * @param {World} [into]
+   * The world at the horizon, as a copy.
+   * @param {World} [into] as that of `world`
    */
   base(into = new World()) {
-    return into.fill(this.horizon, "peer_base", (...buffers) =>
+    return fillable(into).fill(this.horizon, "peer_base", (...buffers) =>
       loaded().code("peer_base", ...this.key, ...buffers),
     );
   }

@@ -1,5 +1,6 @@
 /** The bodies that a match begins with. */
 
+import { checkOptions, wrong } from "./arguments.js";
 import { loaded, Owned } from "./core.js";
 import { count, direction, ONE, raw, rawVector } from "./numbers.js";
 
@@ -7,10 +8,12 @@ import { count, direction, ONE, raw, rawVector } from "./numbers.js";
 /** @typedef {import("./numbers.js").Vector} Vector */
 
 /**
- * What a body is beside its shape: where it is; its mass, 1 if none is given, and 0 if it is
- * static; its friction, 0.5 if none is given; and the player, 0 to 7, who may move it, or null.
+ * What a body is beside its shape: where it is, in metres; its mass in kilograms, from 1/16 to
+ * 1,024, or exactly 0 if it is static, 1 if none is given; its friction, 0 to 4, 0.5 if none is
+ * given; and the player, 0 to 7, who may move it, or null.
  * @typedef {{at: Vector, mass?: Num, friction?: Num, owner?: number | null}} BodyOptions
  */
+const BODY_OPTIONS = ["mass", "friction", "owner"];
 
 /**
  * A body of a scene, in units of 2^-24.
@@ -41,10 +44,12 @@ export class Scene extends Owned {
   key;
 
   /**
-   * @param {{gravity?: Vector}} options
+   * @param {{gravity?: Vector}} options in metres a second squared, [0, -10] if none is given
    */
-  constructor({ gravity = [0, -10] } = {}) {
+  constructor(options = {}) {
     super();
+    checkOptions("Scene", options, [], ["gravity"]);
+    const { gravity = [0, -10] } = options;
     const core = loaded();
     this.gravity = rawVector(gravity, "gravity");
     core.call("scene_new", ...this.gravity, core.output);
@@ -68,22 +73,33 @@ export class Scene extends Owned {
     return scene;
   }
 
-  /** Adds a circle, and returns its number, which is the same for all peers.
-   * @param {BodyOptions & {radius: Num}} options */
-  circle({ at, radius, mass = 1, friction = 0.5, owner = null }) {
-    const material = { owner, mass: raw(mass), friction: raw(friction) };
+  /**
+   * Adds a circle, and returns its number, from 0 on, which is the same for all peers. Where the
+   * core refuses it, that is a PfError with a name as "PF_SCENE_BAD_SIZE", and nothing is added.
+   * @param {BodyOptions & {radius: Num}} options the radius in metres, from 1/16 to 1,024
+   */
+  circle(options) {
+    checkOptions("circle", options, ["at", "radius"], BODY_OPTIONS);
+    const { at, radius } = options;
     const placed = { at: rawVector(at, "at"), direction: UPRIGHT };
-    return this.#add({ kind: "circle", ...material, radius: raw(radius), ...placed });
+    const size = { radius: raw(radius, "radius") };
+    return this.#add({ kind: "circle", ...materialOf(options), ...size, ...placed });
   }
 
-  /** Adds a box of these half extents, turned by an angle or into a direction, [cosine, sine], and
-   * returns its number.
-   * @param {BodyOptions & {half: Vector, angle?: number, direction?: Vector}} options */
-  box({ at, half, angle = 0, direction: into, mass = 1, friction = 0.5, owner = null }) {
-    const material = { owner, mass: raw(mass), friction: raw(friction) };
+  /**
+   * Adds a box, and returns its number, as `circle` does.
+   * @param {BodyOptions & {half: Vector, angle?: number, direction?: Vector}} options its half
+   *   extents in metres, each from 1/16 to 1,024, and how it is turned: by an angle in radians, or
+   *   into a direction, [cosine, sine]; not at all if neither is given
+   */
+  box(options) {
+    const others = ["angle", "direction", ...BODY_OPTIONS];
+    checkOptions("box", options, ["at", "half"], others);
+    const { at, half, angle = 0, direction: into } = options;
     const turned = into === undefined ? direction(angle) : rawVector(into, "direction");
     const placed = { at: rawVector(at, "at"), direction: turned };
-    return this.#add({ kind: "box", ...material, half: rawVector(half, "half"), ...placed });
+    const size = { half: rawVector(half, "half") };
+    return this.#add({ kind: "box", ...materialOf(options), ...size, ...placed });
   }
 
   /**
@@ -114,10 +130,28 @@ export class Scene extends Owned {
 }
 
 /**
+ * @param {BodyOptions} options
+ */
+function materialOf({ mass, friction = 0.5, owner = null }) {
+  return { owner, mass: massOf(mass), friction: raw(friction, "friction") };
+}
+
+/**
+ * A mass in units of 2^-24. One that rounds to 0 is no static body's: it becomes 1, which is less
+ * than the core takes.
+ * @param {Num} mass
+ */
+function massOf(mass = 1) {
+  const units = raw(mass, "mass");
+  return units === 0n && Number(mass) !== 0 ? 1n : units;
+}
+
+/**
  * Throws the error of the first line that is wrong, if there is one.
  * @param {string} text
  */
 function checkText(text) {
+  if (typeof text !== "string") throw wrong("text", "a string", text);
   const core = loaded();
   const bytes = new TextEncoder().encode(text);
   const at = core.allocate(bytes.length);

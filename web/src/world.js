@@ -1,11 +1,12 @@
 /** The bodies and contacts of a tick. */
 
-import { loaded, Owned, PF_SMALL_BUFFER, PF_UNKNOWN_BODY } from "./core.js";
-import { metres, ONE } from "./numbers.js";
+import { wrong } from "./arguments.js";
+import { loaded, PF_SMALL_BUFFER, PF_UNKNOWN_BODY } from "./core.js";
+import { count, GREATEST_U32, metres, ONE } from "./numbers.js";
 
 /** The sizes of pf_body and pf_contact, and where a body says whether it is awake. */
 const BODY_BYTES = 64;
-const BODY_WORDS = BODY_BYTES / 4;
+const BODY_WORDS = BODY_BYTES / Int32Array.BYTES_PER_ELEMENT;
 const AWAKE = 15;
 const CONTACT_BYTES = 24;
 
@@ -23,7 +24,7 @@ const WORD = 2 ** 32;
 const FNV_OFFSET = 0x811c9dc5;
 const FNV_PRIME = 0x01000193;
 
-/** Memory of the core that grows. It stands apart from its world, so that this can be collected. */
+/** Memory of the core, which grows: a call writes to it what a world then copies. */
 class Buffer {
   at = 0;
   /** How many elements it has room for. */
@@ -43,37 +44,38 @@ class Buffer {
   grow(elements) {
     if (elements <= this.room) return;
     const at = loaded().allocate(elements * this.size);
-    this.free();
+    if (this.room > 0) loaded().free(this.at);
     this.at = at;
     this.room = elements;
   }
 
-  free() {
-    if (this.room > 0) loaded().free(this.at);
-    this.at = 0;
-    this.room = 0;
+  /**
+   * The first elements, copied: into an array that has their length, or else into a new one.
+   * @param {number} elements
+   * @param {Int32Array} into
+   */
+  copy(elements, into) {
+    const length = (elements * this.size) / Int32Array.BYTES_PER_ELEMENT;
+    const words = new Int32Array(loaded().buffer, this.at, length);
+    if (into.length !== length) return words.slice();
+    into.set(words);
+    return into;
   }
 }
 
-/** A world that `Peer.world` fills. Whoever fills it again has the next one in its place. */
-export class World extends Owned {
-  #bodies = new Buffer(BODY_BYTES);
-  #contacts = new Buffer(CONTACT_BYTES);
+const writtenBodies = new Buffer(BODY_BYTES);
+const writtenContacts = new Buffer(CONTACT_BYTES);
+
+/** A world, in JavaScript's memory. Nothing changes it but a call that is given it to be filled. */
+export class World {
+  #bodies = new Int32Array(0);
+  #contacts = new Int32Array(0);
   /** @type {{values: Float64Array, awake: Uint8Array} | null} */
   #numbers = null;
   /** The tick, and how many bodies and contacts there are. */
   tick = 0;
   bodyCount = 0;
   contactCount = 0;
-
-  constructor() {
-    super();
-    const [bodies, contacts] = [this.#bodies, this.#contacts];
-    this.owns(() => {
-      bodies.free();
-      contacts.free();
-    });
-  }
 
   /**
    * Fills it by a call, which is made again where the memory was too small.
@@ -84,10 +86,9 @@ export class World extends Owned {
    */
   fill(tick, name, call) {
     const core = loaded();
+    const [bodies, contacts] = [writtenBodies, writtenContacts];
     let code = PF_SMALL_BUFFER;
-    this.#empty();
     while (code === PF_SMALL_BUFFER) {
-      const [bodies, contacts] = [this.#bodies, this.#contacts];
       const front = [bodies.at || core.output, BigInt(bodies.room)];
       code = call(...front, contacts.at || core.output, BigInt(contacts.room), core.output);
       if (code === PF_SMALL_BUFFER) {
@@ -100,19 +101,10 @@ export class World extends Owned {
     this.bodyCount = core.told();
     this.contactCount = core.told(8);
     this.tick = tick;
-    return this;
-  }
-
-  #empty() {
-    this.bodyCount = 0;
-    this.contactCount = 0;
+    this.#bodies = bodies.copy(this.bodyCount, this.#bodies);
+    this.#contacts = contacts.copy(this.contactCount, this.#contacts);
     this.#numbers = null;
-  }
-
-  /** Gives its memory back at once; then it has no bodies and no contacts. */
-  free() {
-    this.#empty();
-    super.free();
+    return this;
   }
 
   /** x, y, cosine, sine, vx, vy and spin of each body, in metres and seconds. */
@@ -130,7 +122,7 @@ export class World extends Owned {
     if (this.#numbers !== null) return this.#numbers;
     const values = new Float64Array(this.bodyCount * STRIDE);
     const awake = new Uint8Array(this.bodyCount);
-    const words = this.#words(this.#bodies, this.bodyCount);
+    const words = this.#bodies;
     for (let body = 0; body < this.bodyCount; body++) {
       const from = body * BODY_WORDS;
       for (let at = 0; at < STRIDE; at++) {
@@ -144,11 +136,11 @@ export class World extends Owned {
   }
 
   /**
-   * The bodies as pf.h has them, eight numbers each; the last is timer + awake * 2^32. It is a view
-   * of the core's memory: good until the next call.
+   * The bodies as pf.h has them, eight numbers each; the last is timer + awake * 2^32. It is the
+   * world's own memory.
    */
   get raw() {
-    return new BigInt64Array(loaded().buffer, this.#bodies.at, this.bodyCount * 8);
+    return new BigInt64Array(this.#bodies.buffer);
   }
 
   /**
@@ -156,7 +148,7 @@ export class World extends Owned {
    * @param {number} number
    */
   body(number) {
-    if (!Number.isInteger(number) || number < 0 || number >= this.bodyCount) {
+    if (count(number, GREATEST_U32, "number") >= this.bodyCount) {
       throw loaded().error(PF_UNKNOWN_BODY, "World.body");
     }
     const [x, y, cosine, sine, vx, vy, spin] = this.values.subarray(number * STRIDE);
@@ -166,9 +158,9 @@ export class World extends Owned {
 
   /** The contacts, whose impulses are in kilograms times metres a second. */
   contacts() {
-    const view = loaded().view;
+    const view = new DataView(this.#contacts.buffer);
     return Array.from({ length: this.contactCount }, (_, number) => {
-      const at = this.#contacts.at + number * CONTACT_BYTES;
+      const at = number * CONTACT_BYTES;
       return {
         a: view.getUint16(at, true),
         b: view.getUint16(at + 2, true),
@@ -182,7 +174,7 @@ export class World extends Owned {
   /** 16 digits: where two worlds differ these do, but by an accident. */
   hash() {
     let [a, b] = [FNV_OFFSET, FNV_OFFSET ^ this.bodyCount];
-    for (const words of this.#all()) {
+    for (const words of [this.#bodies, this.#contacts]) {
       for (const word of words) {
         a = Math.imul(a ^ word, FNV_PRIME);
         b = Math.imul(b ^ word ^ (a >>> 15), FNV_PRIME);
@@ -196,23 +188,15 @@ export class World extends Owned {
    * @param {World} other
    */
   equals(other) {
-    const [own, others] = [this.#all(), other.#all()];
-    return own.every((words, at) => {
-      const as = others[at];
-      return words.length === as.length && words.every((word, k) => word === as[k]);
-    });
+    if (!(other instanceof World)) throw wrong("other", "a World", other);
+    return areSame(this.#bodies, other.#bodies) && areSame(this.#contacts, other.#contacts);
   }
+}
 
-  #all() {
-    const bodies = this.#words(this.#bodies, this.bodyCount);
-    return [bodies, this.#words(this.#contacts, this.contactCount)];
-  }
-
-  /**
-   * @param {Buffer} buffer
-   * @param {number} elements
-   */
-  #words(buffer, elements) {
-    return new Int32Array(loaded().buffer, buffer.at, (elements * buffer.size) / 4);
-  }
+/**
+ * @param {Int32Array} words
+ * @param {Int32Array} others
+ */
+function areSame(words, others) {
+  return words.length === others.length && words.every((word, at) => word === others[at]);
 }

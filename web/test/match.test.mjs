@@ -1,6 +1,17 @@
 import assert from "node:assert/strict";
 import test from "node:test";
-import { fromHex, metres, Peer, readFrame, sceneOfTwo, STRIDE, toHex, World } from "./common.mjs";
+import {
+  fromHex,
+  metres,
+  Peer,
+  readFrame,
+  refuses,
+  Scene,
+  sceneOfTwo,
+  STRIDE,
+  toHex,
+  World,
+} from "./common.mjs";
 
 function twoPeers() {
   const scene = sceneOfTwo();
@@ -25,6 +36,53 @@ test("a late frame makes both worlds equal", () => {
   assert.ok(first.world().equals(second.world()));
   assert.equal(first.world().hash(), second.world().hash());
   assert.equal(second.counts.ticks, 40);
+});
+
+test("worlds of two ticks are two worlds", () => {
+  const [peer] = twoPeers();
+  const first = peer.world();
+  const hash = first.hash();
+  go(peer, 5);
+  const second = peer.world();
+  assert.ok(!first.equals(second));
+  assert.deepEqual([first.tick, second.tick], [0, 5]);
+  assert.equal(first.hash(), hash);
+  assert.ok(second.values[STRIDE + 1] < first.values[STRIDE + 1], "it falls");
+  assert.ok(first.equals(peer.world(0)));
+});
+
+test("a world is filled where one is given, unless the call is refused", () => {
+  const [peer] = twoPeers();
+  const world = peer.world(0);
+  const before = Array.from(world.values);
+  refuses("PF_NOT_REACHED", () => peer.world(1, world));
+  assert.deepEqual([world.tick, Array.from(world.values)], [0, before]);
+  go(peer, 5);
+  assert.equal(peer.world(5, world), world);
+  assert.equal(world.tick, 5);
+  assert.ok(world.equals(peer.world(5)));
+  assert.equal(peer.base(world), world);
+  assert.deepEqual([world.tick, Array.from(world.values)], [0, before]);
+});
+
+test("typed arrays are vectors as arrays are", () => {
+  const [peer] = twoPeers();
+  const [x, y] = [6n << 24n, -(1n << 23n)];
+  for (const impulse of [
+    [6, -0.5],
+    { x: 6, y: -0.5 },
+    Float64Array.of(6, -0.5),
+    Float32Array.of(6, -0.5),
+    BigInt64Array.of(x, y),
+  ]) {
+    const said = readFrame(peer.push(1, impulse));
+    assert.deepEqual([said.x, said.y], [x, y]);
+  }
+  const scene = new Scene({ gravity: Float32Array.of(0, -10) });
+  scene.box({ at: Float64Array.of(1, 2), half: Float32Array.of(1, 1) });
+  const same = new Scene({ gravity: [0, -10] });
+  same.box({ at: [1, 2], half: [1, 1] });
+  assert.equal(scene.toString(), same.toString());
 });
 
 test("a frame says what was issued", () => {

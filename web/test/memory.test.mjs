@@ -9,18 +9,18 @@ const FEW_KEYS = 600;
 
 test("what is freed is gone, and may be freed twice", () => {
   const scene = sceneOfTwo();
-  const peer = new Peer(scene);
+  const peer = new Peer(scene, { player: 0 });
   scene.free();
   peer.advance();
   peer.settle();
   peer.free();
   peer.free();
   refuses("PF_BAD_KEY", () => peer.advance());
-  refuses("PF_BAD_KEY", () => new Peer(scene));
+  refuses("PF_BAD_KEY", () => new Peer(scene, { player: 0 }));
 });
 
-test("a world stays when its peer is freed, and has nothing when it is freed itself", () => {
-  const peer = new Peer(sceneOfTwo());
+test("a world stays when its peer is freed", () => {
+  const peer = new Peer(sceneOfTwo(), { player: 0 });
   peer.advance(10);
   peer.settle();
   const world = peer.world();
@@ -28,31 +28,28 @@ test("a world stays when its peer is freed, and has nothing when it is freed its
   peer.free();
   assert.equal(world.hash(), hash);
   assert.equal(world.values.length, 3 * 7);
-  world.free();
-  assert.equal(world.bodyCount, 0);
-  assert.equal(world.values.length, 0);
-  assert.deepEqual(world.contacts(), []);
 });
 
 test("a world is the same after the memory has grown", () => {
-  const peer = new Peer(sceneOfTwo());
+  const peer = new Peer(sceneOfTwo(), { player: 0 });
   peer.advance(10);
   peer.settle();
   const world = peer.world();
-  const [hash, view] = [world.hash(), world.raw];
+  const [hash, raw] = [world.hash(), Array.from(world.raw)];
+  const before = loaded().buffer.byteLength;
   const large = new Scene();
   for (let body = 0; body < 1000; body++) {
     large.circle({ at: [(body % 40) * 2.1, Math.floor(body / 40) * 2.1], radius: 1 });
   }
   const peers = [];
-  while (view.length > 0 && peers.length < 100) {
-    const other = new Peer(large, { ring: 64 });
+  while (loaded().buffer.byteLength === before && peers.length < 100) {
+    const other = new Peer(large, { player: 0, ring: 64 });
     other.advance(70);
     other.settle();
     peers.push(other);
   }
-  assert.equal(view.length, 0, "the view of before is dead");
-  assert.equal(world.raw.length, 3 * 8);
+  assert.notEqual(loaded().buffer.byteLength, before);
+  assert.deepEqual(Array.from(world.raw), raw);
   assert.equal(world.hash(), hash);
   for (const other of peers) other.free();
 });
@@ -61,7 +58,7 @@ test("what is freed is used again", () => {
   const scene = sceneOfTwo();
   let bytes = 0;
   for (let made = 0; made < 3000; made++) {
-    const peer = new Peer(scene, { ring: 64 });
+    const peer = new Peer(scene, { player: 0, ring: 64 });
     peer.advance(64);
     peer.settle();
     peer.free();
@@ -85,11 +82,20 @@ test("where all memory is taken, a call says so, and works again when some is th
   assert.equal(sceneOfTwo().bodies.length, 3);
 });
 
+test("worlds take no memory of the core", () => {
+  const peer = new Peer(sceneOfTwo(), { player: 0 });
+  peer.world(0);
+  const bytes = loaded().buffer.byteLength;
+  const worlds = Array.from({ length: 20000 }, () => peer.world(0));
+  assert.equal(loaded().buffer.byteLength, bytes);
+  assert.ok(worlds.every((world) => world.equals(worlds[0])));
+});
+
 test("what the collector finds is freed", { skip: !globalThis.gc }, async () => {
   const scene = sceneOfTwo();
   let greatest = 0;
   for (let made = 0; made < 2000; made++) {
-    const peer = new Peer(scene, { ring: 64 });
+    const peer = new Peer(scene, { player: 0, ring: 64 });
     peer.advance(64);
     peer.settle();
     greatest = Math.max(greatest, peer.key[0]);

@@ -1,11 +1,22 @@
 import assert from "node:assert/strict";
 import test from "node:test";
-import { fromHex, Peer, PfError, readFrame, refuses, Scene, sceneOfTwo } from "./common.mjs";
+import {
+  fromHex,
+  metres,
+  Peer,
+  PfError,
+  raw,
+  readFrame,
+  refuses,
+  Scene,
+  sceneOfTwo,
+  toHex,
+} from "./common.mjs";
 
 const at = [0, 0];
 
 test("commands", () => {
-  const peer = new Peer(sceneOfTwo());
+  const peer = new Peer(sceneOfTwo(), { player: 0 });
   refuses("PF_NOT_OWNER", () => peer.push(2, [1, 0]));
   refuses("PF_STATIC_BODY", () => peer.push(0, [1, 0]));
   assert.throws(() => peer.push(0, [1, 0]), {
@@ -21,7 +32,7 @@ test("commands", () => {
 });
 
 test("frames", () => {
-  const peer = new Peer(sceneOfTwo());
+  const peer = new Peer(sceneOfTwo(), { player: 0 });
   refuses("PF_FRAME_SHORT", () => peer.take(new Uint8Array(26)));
   refuses("PF_FRAME_LONG", () => peer.take(new Uint8Array(28)));
   refuses("PF_FRAME_LONG", () => peer.take(new Uint8Array(3000)));
@@ -40,7 +51,7 @@ test("frames", () => {
 
 test("ticks", () => {
   const scene = sceneOfTwo();
-  const [peer, other] = [new Peer(scene), new Peer(scene)];
+  const [peer, other] = [0, 1].map((player) => new Peer(scene, { player }));
   const frame = peer.push(1, [1, 0]);
   refuses("PF_NOT_REACHED", () => peer.world(1));
   refuses("PF_NOT_REACHED", () => peer.seal(1));
@@ -65,8 +76,8 @@ test("scenes and peers", () => {
   assert.equal(scene.bodies.length, 3);
   refuses("PF_BAD_PLAYER", () => new Peer(scene, { player: 8 }));
   refuses("PF_BAD_PLAYER", () => new Peer(scene, { player: 256 }));
-  refuses("PF_BAD_RING", () => new Peer(scene, { ring: 0 }));
-  refuses("PF_BAD_RING", () => new Peer(scene, { ring: 65 }));
+  refuses("PF_BAD_RING", () => new Peer(scene, { player: 0, ring: 0 }));
+  refuses("PF_BAD_RING", () => new Peer(scene, { player: 0, ring: 65 }));
   const full = new Scene();
   for (let body = 0; body < 1024; body++) full.circle({ at: [body * 3, 0], radius: 1 });
   refuses("PF_SCENE_TOO_MANY", () => full.circle({ at, radius: 1 }));
@@ -84,33 +95,102 @@ test("texts, with their lines", () => {
   }
 });
 
-test("arguments of a wrong kind", () => {
+test("a mass that rounds to 0 is refused, and only 0 is static", () => {
+  const scene = new Scene();
+  for (const mass of [1e-9, 2 ** -26, -1e-9, Number.MIN_VALUE, 1n]) {
+    refuses("PF_SCENE_BAD_MASS", () => scene.circle({ at, radius: 1, mass }));
+    refuses("PF_SCENE_BAD_MASS", () => scene.box({ at, half: [1, 1], mass }));
+  }
+  for (const mass of [0, -0, 0n]) scene.circle({ at, radius: 1, mass });
+  assert.deepEqual(scene.bodies.map((body) => body.mass), [0n, 0n, 0n]);
+});
+
+/** Calls of a scene of two and a peer of it, and the argument that each has wrong. */
+const WRONG = [
+  ["impulse", (scene, peer) => peer.push(1, 5)],
+  ["impulse.x", (scene, peer) => peer.push(1, [NaN, 0])],
+  ["impulse.y", (scene, peer) => peer.push(1, { x: 1 })],
+  ["impulse.y", (scene, peer) => peer.push(1, [1, "2"])],
+  ["impulse", (scene, peer) => peer.push(1, null)],
+  ["impulse", (scene, peer) => peer.push(1, [1])],
+  ["impulse", (scene, peer) => peer.push(1, [1, 2, 3])],
+  ["impulse", (scene, peer) => peer.push(1, new Float64Array(3))],
+  ["impulse.x", (scene, peer) => peer.push(1, new DataView(new ArrayBuffer(16)))],
+  ["impulse", (scene, peer) => peer.push(1, "12")],
+  ["body", (scene, peer) => peer.push(1.5, [0, 0])],
+  ["body", (scene, peer) => peer.push("1", [0, 0])],
+  ["body", (scene, peer) => peer.push(1n, [0, 0])],
+  ["impulse", (scene, peer) => peer.turn(1, [1, 0])],
+  ["impulse", (scene, peer) => peer.turn(1)],
+  ["at", (scene, peer) => peer.place(1)],
+  ["ticks", (scene, peer) => peer.advance(-1)],
+  ["ticks", (scene, peer) => peer.advance(0.5)],
+  ["tick", (scene, peer) => peer.seal("1")],
+  ["tick", (scene, peer) => peer.world("1")],
+  ["into", (scene, peer) => peer.world(0, {})],
+  ["into", (scene, peer) => peer.base(peer)],
+  ["from", (scene, peer) => peer.frames(null)],
+  ["number", (scene, peer) => peer.world(0).body("1")],
+  ["other", (scene, peer) => peer.world(0).equals(peer)],
+  ["Scene", (scene, peer) => new Scene([0, -10])],
+  ["Scene", (scene, peer) => new Scene(null)],
+  ["gravity", (scene, peer) => new Scene({ gravity: -10 })],
+  ["box", (scene, peer) => scene.box({ at })],
+  ["circle", (scene, peer) => scene.circle({ radius: 1 })],
+  ["circle", (scene, peer) => scene.circle()],
+  ["circle", (scene, peer) => scene.circle(1)],
+  ["radius", (scene, peer) => scene.circle({ at, radius: "1" })],
+  ["mass", (scene, peer) => scene.circle({ at, radius: 1, mass: "1" })],
+  ["mass", (scene, peer) => scene.circle({ at, radius: 1, mass: null })],
+  ["friction", (scene, peer) => scene.circle({ at, radius: 1, friction: Symbol("f") })],
+  ["owner", (scene, peer) => scene.circle({ at, radius: 1, owner: -1 })],
+  ["half.x", (scene, peer) => scene.box({ at, half: { y: 1 } })],
+  ["angle", (scene, peer) => scene.box({ at, half: [1, 1], angle: NaN })],
+  ["angle", (scene, peer) => scene.box({ at, half: [1, 1], angle: 2 ** 21 })],
+  ["direction", (scene, peer) => scene.box({ at, half: [1, 1], direction: 1 })],
+  ["text", (scene, peer) => Scene.read(new TextEncoder().encode("gravity 0 0\nend\n"))],
+  ["frame", (scene, peer) => peer.take("00")],
+  ["frame", (scene, peer) => peer.take(new Blob([]))],
+  ["frame", (scene, peer) => readFrame([1, 2, 3])],
+  ["bytes", (scene, peer) => toHex("00")],
+  ["digits", (scene, peer) => fromHex("0g")],
+  ["digits", (scene, peer) => fromHex("012")],
+  ["digits", (scene, peer) => fromHex(12)],
+  ["value", (scene, peer) => raw("1")],
+  ["value", (scene, peer) => metres(1)],
+  ["scene", (scene, peer) => new Peer({}, { player: 0 })],
+  ["scene", (scene, peer) => new Peer(peer, { player: 0 })],
+  ["Peer", (scene, peer) => new Peer(scene, 0)],
+  ["player", (scene, peer) => new Peer(scene, { player: null })],
+  ["ring", (scene, peer) => new Peer(scene, { player: 0, ring: "16" })],
+  ["other", (scene, peer) => peer.merge(scene)],
+  ["other", (scene, peer) => peer.mergeAlone(null)],
+];
+
+test("arguments of a wrong kind are named", () => {
   const scene = sceneOfTwo();
-  const peer = new Peer(scene);
-  for (const call of [
-    () => peer.push(1, 5),
-    () => peer.push(1, [NaN, 0]),
-    () => peer.push(1, null),
-    () => peer.push(1.5, [0, 0]),
-    () => peer.push("1", [0, 0]),
-    () => peer.advance(-1),
-    () => peer.advance(0.5),
-    () => peer.seal("1"),
-    () => scene.box({ at }),
-    () => scene.circle({ radius: 1 }),
-    () => scene.circle({ at, radius: 1, owner: -1 }),
-    () => scene.box({ at, half: [1, 1], angle: NaN }),
-    () => scene.box({ at, half: [1, 1], angle: 2 ** 21 }),
-    () => peer.take("00"),
-    () => peer.take(new Blob([])),
-    () => readFrame([1, 2, 3]),
-    () => fromHex("0g"),
-    () => fromHex("012"),
-    () => new Peer({}),
-    () => new Peer(peer),
-    () => peer.merge(scene),
-    () => peer.mergeAlone(null),
+  const peer = new Peer(scene, { player: 0 });
+  for (const [name, call] of WRONG) {
+    const isNamed = (error) => error instanceof TypeError && error.message.startsWith(`${name}: `);
+    assert.throws(() => call(scene, peer), isNamed, call.toString());
+  }
+  assert.equal(scene.bodies.length, 3);
+  assert.deepEqual(peer.frames(), []);
+});
+
+test("options that are unknown or missing are named", () => {
+  const scene = sceneOfTwo();
+  const take = "at, radius, mass, friction, owner";
+  for (const [message, call] of [
+    [`circle: there is no option raduis: it takes ${take}`, () => scene.circle({ raduis: 1 })],
+    ["circle: the option radius is missing", () => scene.circle({ at })],
+    ["box: the option at is missing", () => scene.box({ half: [1, 1], angle: 1 })],
+    ["Scene: there is no option g: it takes gravity", () => new Scene({ g: [0, 0] })],
+    ["Peer: the option player is missing", () => new Peer(scene)],
+    ["Peer: the option player is missing", () => new Peer(scene, { ring: 8 })],
+    ["impulse: [x, y] or {x, y} is wanted, not Array of length 3", () =>
+      new Peer(scene, { player: 0 }).push(1, [1, 2, 3])],
   ]) {
-    assert.throws(call, TypeError, call.toString());
+    assert.throws(call, { name: "TypeError", message });
   }
 });
