@@ -42,7 +42,7 @@ fn load_levels(
 ) -> Result<usize, AllocError>
     requires { AreBatches islands.now }
     ensures pairs { OnOk result (pairs.new.items ≡ map pair_of (batch_of islands.now).rows) }
-    ensures levels { OnOk result (AreLevelsOf (batch_of islands.now) levels.new.levels) }
+    ensures levels { OnOk result (AreLevelsOf (batch_of islands.now) levels.new) }
     ensures bodies { IfOk result (λ bodies. ArePairsOf bodies pairs.new.items) }
     ensures sides { OnOk result (ArePairsOf (2 ^ 64 - 1) pairs.new.items) }
 {
@@ -63,9 +63,9 @@ fn load_bundles_of(
 ) -> Result<bool, AllocError>
     requires pairs { pairs.now ≡ map pair_of (batch_of islands.now).rows }
     requires sides { ArePairsOf (2 ^ 64 - 1) pairs.now }
-    requires levels { AreLevelsOf (batch_of islands.now) levels.now.levels }
+    requires levels { AreLevelsOf (batch_of islands.now) levels.now }
     ensures { IfOk result (λ loaded. IsTrue loaded → IsLoaded (batch_of islands.now)
-        levels.now.levels rows.new.items numbers.new bundles.new.items) }
+        levels.now rows.new.items numbers.new bundles.new.items) }
 {
     if !load_rows(islands, rows)? || !load_numbers(islands, numbers, START_LIMIT)? {
         return Ok(false);

@@ -1,7 +1,6 @@
 //! Memory for solving rows in lanes.
 
 ghost use Rattle.std.specs.Prelude.{◌≡◌, [], None};
-ghost use Rattle.pf_levels.specs.Levels.{no_levels};
 
 use crate::bundle::Bundle;
 use crate::lane_row::LaneRow;
@@ -11,8 +10,7 @@ use std::alloc::Global;
 use std::fmt::{Debug, Error, Formatter, Write};
 
 /// Memory that solving rows in lanes uses from tick to tick, as much as the greatest tick needed.
-/// Nothing of what it holds is used again but the levels of the last tick, which are kept while the
-/// pairs stay the same.
+/// Nothing of what it holds is used again.
 #[derive(Drop)]
 pub struct Workspace {
     /// The sides of the bodies of all rows.
@@ -42,7 +40,7 @@ impl Workspace {
     /// Without memory. Takes none.
     pub fn new(alloc: Global) -> Workspace
         ensures pairs { result.pairs.items ≡ [] }
-        ensures levels { result.levels ≡ no_levels }
+        ensures levels { result.levels ≡ [] }
         ensures overlap { result.overlap ≡ [] }
         ensures rows { result.rows.items ≡ [] }
         ensures bundles { result.bundles.items ≡ [] }

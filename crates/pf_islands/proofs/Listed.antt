@@ -1,5 +1,5 @@
--- Awake bodies, which are looked for among listed ones alone.
-use Rattle.std.proofs.Common.{◌≡◌, ◌∙◌, ◌<◌, ◌==◌, ⊎_elim, ℕ, Bool, true, false, not, ◌&&◌, ◌||◌, cond, List, filter, length, nat_lt, refl, sym, ap, ap₂, arith}
+-- Awake bodies, and their flags.
+use Rattle.std.proofs.Common.{◌≡◌, ◌∙◌, ◌<◌, ◌==◌, ⊎_elim, ℕ, Bool, true, false, not, ◌&&◌, ◌||◌, cond, List, [], length, nat_lt, refl, sym, ap, ap₂, arith}
 use Rattle.std.specs.List.{range_with_len}
 use Rattle.std.proofs.Math.ListN.{get_or-eq_default}
 use Rattle.std.proofs.lemmas.Bool.{cases_lt, true≢false}
@@ -8,7 +8,7 @@ use Rattle.std.proofs.lemmas.List.{nil_from_length}
 use Rattle.pf_shapes.specs.Body.{BodyState, no_state}
 use Rattle.pf_shapes.specs.Scene.{Scene, is_static_at}
 use Rattle.pf_broad.specs.Partners.{has_body}
-use Rattle.pf_broad.proofs.Ranges.{has_body-below, has_body-filter}
+use Rattle.pf_broad.proofs.Ranges.{filter-range_none, has_body-below, has_body-filter}
 use Rattle.pf_islands.specs.Flags.{ListsAwake, awake_numbers}
 use Rattle.pf_islands.specs.Rows.{is_awake_at, is_simulated_at}
 
@@ -23,17 +23,6 @@ awake_there bodies k awake =
 
 is_below : (k n : ℕ) → k < n → nat_lt k n ≡ true
 is_below k n below = grind (arith, nat_tests)
-
--- the awake ones of the listed bodies are all that are awake
-pub awake_of_listed : (numbers found : List ℕ) (bodies : List BodyState) → ListsAwake numbers bodies
-    → found ≡ filter (is_awake_at bodies) numbers
-    → (k : ℕ) → has_body found k ≡ (is_awake_at bodies k && nat_lt k (length bodies))
-awake_of_listed numbers found bodies awake found_are k =
-    ap (λ ns. has_body ns k) found_are ∙ has_body-filter (is_awake_at bodies) numbers k ∙ by (is_awake_at bodies k) refl
-  where
-    by : (e : Bool) → is_awake_at bodies k ≡ e → (e && has_body numbers k) ≡ (e && nat_lt k (length bodies))
-    by true is = awake k is ∙ sym (is_below k (length bodies) (awake_there bodies k is))
-    by false is = refl
 
 -- all bodies are listed
 pub all_listed : (numbers : List ℕ) (n : ℕ) (bodies : List BodyState) → numbers ≡ range_with_len 0 n → n ≡ length bodies
@@ -82,11 +71,21 @@ none_awake bodies none k = by (is_awake_at bodies k) refl
   where
     found : is_awake_at bodies k ≡ true → has_body (awake_numbers bodies) k ≡ true
     found is =
-        awake_of_listed (range_with_len 0 (length bodies)) (awake_numbers bodies) bodies
-        (all_listed (range_with_len 0 (length bodies)) (length bodies) bodies refl refl) refl k
-        ∙ ap₂ (λ a b. a && b) is (is_below k (length bodies) (awake_there bodies k is))
+        has_body-filter (is_awake_at bodies) (range_with_len 0 (length bodies)) k
+        ∙ ap₂ (λ a b. a && b) is
+        (has_body-below (length bodies) k ∙ is_below k (length bodies) (awake_there bodies k is))
 
     by : (e : Bool) → is_awake_at bodies k ≡ e → is_awake_at bodies k ≡ false
     by true is =
         absurd (true≢false (sym (found is) ∙ ap (λ ns. has_body ns k) (nil_from_length (awake_numbers bodies) none)))
     by false is = is
+
+-- no body is awake where none is listed
+pub none_listed : (numbers : List ℕ) (bodies : List BodyState) → ListsAwake numbers bodies → length numbers ≡ 0
+    → awake_numbers bodies ≡ []
+none_listed numbers bodies awake none =
+    filter-range_none (is_awake_at bodies) 0 (length bodies) (λ k low. by k (is_awake_at bodies k) refl)
+  where
+    by : (k : ℕ) (e : Bool) → is_awake_at bodies k ≡ e → is_awake_at bodies k ≡ false
+    by k true is = absurd (true≢false (sym (awake k is) ∙ ap (λ ns. has_body ns k) (nil_from_length numbers none)))
+    by k false is = is

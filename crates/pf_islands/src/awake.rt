@@ -1,31 +1,10 @@
 //! Which bodies are awake in a tick, as a list of numbers and as flags.
 
-ghost use Rattle.std.specs.Prelude.{◌≡◌, ◌<◌, [], All, filter, length, IfOk, IsOk};
+ghost use Rattle.std.specs.Prelude.{◌≡◌, [], length, IfOk, IsOk};
 ghost use Rattle.pf_islands.specs.Flags.{ListsAwake, awake_numbers, simulated_flags};
-ghost use Rattle.pf_islands.specs.Rows.{is_awake_at};
 
 use pf_shapes::{BodyState, Scene};
 use std::alloc::{AllocError, Global};
-
-/// The awake ones of these bodies, in the same order.
-fn awake_among(
-    alloc: Global,
-    bodies: &[BodyState],
-    listed: &[usize],
-) -> Result<Vec<usize>, AllocError>
-    requires { All (λ number. number < length bodies.now) listed.now }
-    ensures { IfOk result
-        (λ numbers. numbers.items ≡ filter (is_awake_at bodies.now) listed.now) }
-{
-    let mut numbers = Vec::with_capacity(alloc, listed.len())?;
-    for number in listed {
-        let body = &bodies[*number];
-        if body.awake {
-            numbers.push_reserved(*number);
-        }
-    }
-    Ok(numbers)
-}
 
 /// The numbers of all awake bodies, in ascending order. Takes no memory where there are no bodies.
 pub(crate) fn awake_of_all(alloc: Global, bodies: &[BodyState]) -> Result<Vec<usize>, AllocError>
@@ -41,27 +20,21 @@ pub(crate) fn awake_of_all(alloc: Global, bodies: &[BodyState]) -> Result<Vec<us
     Ok(numbers)
 }
 
-/// The numbers of all awake bodies, in ascending order. `listed` has each of them; its numbers may
-/// be in any order, and repeat. Where it has at least half as many numbers as there are bodies,
-/// rounded down, all bodies are looked at instead, so that nothing is sorted. Takes no memory where
-/// there are no bodies.
+/// The numbers of all awake bodies, in ascending order. `listed` has each of them: where it is
+/// empty, no body is looked at. Takes no memory where there are no bodies.
 pub(crate) fn awake_numbers(
     alloc: Global,
     bodies: &[BodyState],
     listed: &[usize],
 ) -> Result<Vec<usize>, AllocError>
-    requires listed { All (λ number. number < length bodies.now) listed.now }
-    requires awake { ListsAwake listed.now bodies.now }
+    requires { ListsAwake listed.now bodies.now }
     ensures value { IfOk result (λ numbers. numbers.items ≡ awake_numbers bodies.now) }
     ensures no_memory { bodies.now ≡ [] → IsOk result }
 {
-    if listed.len() >= bodies.len() / 2 {
-        return awake_of_all(alloc, bodies);
+    if listed.is_empty() {
+        return Ok(Vec::new(alloc));
     }
-    let mut numbers = awake_among(alloc, bodies, listed)?;
-    numbers.sort_unstable();
-    numbers.dedup();
-    Ok(numbers)
+    awake_of_all(alloc, bodies)
 }
 
 /// For each body whether it is dynamic and awake: one byte each, so that the flags can be read

@@ -6,12 +6,12 @@ use Rattle.pf_num.specs.Fx.{saturate, sum, difference, product}
 use Rattle.pf_num.proofs.Operations.{product-neg_left}
 use Rattle.pf_lanes.specs.Lanes.{Lane, Lanes, number_in}
 use Rattle.pf_lanes.specs.Shifted.{shift, unshifted, AreShifted}
-use Rattle.pf_lanes.specs.Doubles.{FitsDouble}
-use Rattle.pf_lanes.proofs.ByLane.{zip_lanes, four_of, rounded_product, number_in-zip_lanes, number_in-four_of}
+use Rattle.pf_lanes.specs.Doubles.{double_of, numerators, FitsDouble, IsExact}
+use Rattle.pf_lanes.proofs.ByLane.{zip_lanes, rounded_product, number_in-zip_lanes}
 use Rattle.pf_lanes.proofs.Sums.{whole_scale, add_doubles, sub_doubles}
 use Rattle.pf_lanes.proofs.Products.{great, product-small}
 use Rattle.pf_lanes.proofs.Shifting.{shifted-unshifted, down_again, number_in-unshifted, product_shifted, opposite_shifted, great_double}
-use Rattle.pf_lanes.proofs.Holding.{Holds, four, same_hold, zip_holds, calculated_hold}
+use Rattle.pf_lanes.proofs.Holding.{Calculates, Holds, four, holds_view, exact_is, view_is, zip_holds, calculated_hold}
 use Rattle.pf_lanes.proofs.Numbers.{HaveSmallProduct, product_fits, product_is}
 use lib.Ieee.{Float, binary64, add, sub, mul}
 use lib.Lanes.{zip2}
@@ -82,122 +82,94 @@ module _ (r a b : Lanes) (h : (k : Lane) → HaveSmallProduct (number_in k a) (n
 
 -- ---- sums and differences
 
-great_holds : Holds 1 (four great) (four_of shift)
-great_holds = same_hold shift great great_double (omega arith)
-
--- a shifted number y, and a number l that is x without what is added or with it
+-- a shifted number, and a number to which one may be added
 abbrev IsSmall : ℤ → Type 0
 IsSmall y = unsigned_abs (y -ℤ shift) ≤ 536870912
 
-abbrev pub IsShort : ℤ → Type 0
+abbrev IsShort : ℤ → Type 0
 IsShort x = unsigned_abs x ≤ 2251799813685248
 
-down_fits : (x m : ℤ) → IsShort x → m ≡ shift → FitsDouble (x -ℤ m)
-down_fits x m h e = rw e (omega (arith, ints))
+-- what is added is subtracted first by f and p, and then a shifted number is added by g and q; or
+-- the other way round
+pub record AreSteps (p q : Float → Float → Float) (f g result : ℤ → ℤ → ℤ) : Type 0 where
+  first : (x : ℤ) → FitsDouble x → p (double_of 1 x) (double_of 1 shift) ≡ double_of 1 (f x shift)
+  second : (x y : ℤ) → FitsDouble x → FitsDouble y → q (double_of 1 x) (double_of 1 y) ≡ double_of 1 (g x y)
+  between : (x : ℤ) → IsShort x → FitsDouble (f x shift)
+  fits : (x y : ℤ) → IsShort x → IsSmall y → FitsDouble (g (f x shift) y)
+  is : (x y : ℤ) → IsShort x → IsSmall y → g (f x shift) y ≡ result x (y -ℤ shift)
+  size : (x y : ℤ) → IsSmall y → unsigned_abs (g (f x shift) y) ≤ unsigned_abs x + 536870912
 
-up_fits : (x m : ℤ) → IsShort x → m ≡ shift → FitsDouble (x +ℤ m)
-up_fits x m h e = rw e (omega (arith, ints))
-
-plus_fits : (x y l : ℤ) → IsShort x → IsSmall y → l ≡ x -ℤ shift → FitsDouble (l +ℤ y)
-plus_fits x y l h small e = rw e (omega (arith, ints))
-
-minus_fits : (x y l : ℤ) → IsShort x → IsSmall y → l ≡ x +ℤ shift → FitsDouble (l -ℤ y)
-minus_fits x y l h small e = rw e (omega (arith, ints))
-
-plus_is : (x y l : ℤ) → IsShort x → IsSmall y → l ≡ x -ℤ shift → l +ℤ y ≡ sum x (y -ℤ shift)
+plus_is : (x y : ℤ) → IsShort x → IsSmall y → x -ℤ shift +ℤ y ≡ sum x (y -ℤ shift)
 unfolding sum saturate
-plus_is x y l h small e = rw e (omega (arith, ints, clamps))
+plus_is x y h small = omega (arith, ints, clamps)
 
-minus_is : (x y l : ℤ) → IsShort x → IsSmall y → l ≡ x +ℤ shift → l -ℤ y ≡ difference x (y -ℤ shift)
+minus_is : (x y : ℤ) → IsShort x → IsSmall y → x +ℤ shift -ℤ y ≡ difference x (y -ℤ shift)
 unfolding difference saturate
-minus_is x y l h small e = rw e (omega (arith, ints, clamps))
+minus_is x y h small = omega (arith, ints, clamps)
 
-plus_size : (x y l : ℤ) → IsSmall y → l ≡ x -ℤ shift → unsigned_abs (l +ℤ y) ≤ unsigned_abs x + 536870912
-plus_size x y l small e = rw e (omega (arith, ints))
+pub plus_steps : AreSteps (sub binary64) (add binary64) (λ x y. x -ℤ y) (λ x y. x +ℤ y) sum
+plus_steps = record {
+  first = λ x fits. sub_doubles 1 whole_scale x shift fits (omega arith);
+  second = add_doubles 1 whole_scale;
+  between = λ x h. omega (arith, ints);
+  fits = λ x y h small. omega (arith, ints);
+  is = plus_is;
+  size = λ x y small. omega (arith, ints);
+}
 
-minus_size : (x y l : ℤ) → IsSmall y → l ≡ x +ℤ shift → unsigned_abs (l -ℤ y) ≤ unsigned_abs x + 536870912
-minus_size x y l small e = rw e (omega (arith, ints))
+pub minus_steps : AreSteps (add binary64) (sub binary64) (λ x y. x +ℤ y) (λ x y. x -ℤ y) difference
+minus_steps = record {
+  first = λ x fits. add_doubles 1 whole_scale x shift fits (omega arith);
+  second = sub_doubles 1 whole_scale;
+  between = λ x h. omega (arith, ints);
+  fits = λ x y h small. omega (arith, ints);
+  is = minus_is;
+  size = λ x y small. omega (arith, ints);
+}
 
-module _ (xs ys : List Float) (a b : Lanes) (ha : Holds 1 xs a) (hb : Holds 1 ys b) (shifted_b : AreShifted b) (h : (k : Lane) → IsShort (number_in k a)) where
-  down : Lanes
-  down = zip_lanes (λ x y. x -ℤ y) a (four_of shift)
+-- four doubles that hold these results of a and b, each at most 2^29 greater than that of a
+pub record AreResults (result : ℤ → ℤ → ℤ) (a b : Lanes) (zs : List Float) : Type 0 where
+  pub exact : IsExact 1 zs
+  pub value : (k : Lane) → number_in k (numerators 1 zs) ≡ result (number_in k a) (number_in k b)
+  pub size : (k : Lane) → unsigned_abs (number_in k (numerators 1 zs)) ≤ unsigned_abs (number_in k a) + 536870912
 
-  up : Lanes
-  up = zip_lanes (λ x y. x +ℤ y) a (four_of shift)
+-- shifted numbers added to four doubles, or subtracted from them
+pub shifted_results : (p q : Float → Float → Float) (f g result : ℤ → ℤ → ℤ) → AreSteps p q f g result
+    → (xs ys : List Float) (a b sums : Lanes) → IsExact 1 xs → numerators 1 xs ≡ a → IsExact 1 ys → numerators 1 ys ≡ sums
+    → AreShifted sums → unshifted sums ≡ b → ((k : Lane) → IsShort (number_in k a))
+    → AreResults result a b (zip2 q (zip2 p xs (four great)) ys)
+shifted_results p q f g result steps xs ys a b sums exact_x x_is exact_y y_is are b_is h = record {
+  exact = exact_is 1 whole_scale _ _ holds;
+  value = λ k.
+      in_lane k ∙ steps.is (number_in k a) (number_in k sums) (h k) (small k)
+      ∙ ap (result (number_in k a)) (sym (number_in-unshifted sums k) ∙ ap (number_in k) b_is);
+  size = λ k. rw (in_lane k) (steps.size (number_in k a) (number_in k sums) (small k));
+}
+  where
+    both : ℤ → ℤ → ℤ
+    both x y = g (f x shift) y
 
-  small_in : (k : Lane) → IsSmall (number_in k b)
-  small_in k = subst (λ (z : ℤ). unsigned_abs z ≤ 536870912) (number_in-unshifted b k) (shifted_b.small k)
+    small : (k : Lane) → IsSmall (number_in k sums)
+    small k = subst (λ (z : ℤ). unsigned_abs z ≤ 536870912) (number_in-unshifted sums k) (are.small k)
 
-  down_in : (k : Lane) → number_in k down ≡ number_in k a -ℤ shift
-  unfolding down
-  down_in k = number_in-zip_lanes (λ x y. x -ℤ y) a (four_of shift) k ∙ ap (λ (z : ℤ). number_in k a -ℤ z) (number_in-four_of shift k)
+    calculates : (x y : ℤ) → IsShort x → FitsDouble y → IsSmall y → Calculates (λ v w. q (p v great) w) both 1 x y
+    calculates x y short fits low = (
+      steps.fits x y short low,
+      ap (λ (m : Float). q (p (double_of 1 x) m) (double_of 1 y)) great_double
+          ∙ ap (λ (v : Float). q v (double_of 1 y)) (steps.first x (omega (arith, short)))
+          ∙ steps.second (f x shift) y (steps.between x short) fits,
+    )
 
-  up_in : (k : Lane) → number_in k up ≡ number_in k a +ℤ shift
-  unfolding up
-  up_in k = number_in-zip_lanes (λ x y. x +ℤ y) a (four_of shift) k ∙ ap (λ (z : ℤ). number_in k a +ℤ z) (number_in-four_of shift k)
+    holds : Holds 1 (zip2 q (zip2 p xs (four great)) ys) (zip_lanes both a sums)
+    holds =
+        let hx = holds_view 1 xs a exact_x x_is in
+        let hy = holds_view 1 ys sums exact_y y_is in
+        let all = zip_holds (λ v w. q (p v great) w) both 1 a sums
+        (λ k. calculates (number_in k a) (number_in k sums) (h k) (hy.whole k) (small k)) in
+        record { are = (λ i. zip2 q (zip2 p (hx.are i) (four great)) (hy.are i)) ∙ all.are; whole = all.whole }
 
-  down_holds : Holds 1 (zip2 (sub binary64) xs (four great)) down
-  unfolding down
-  down_holds = calculated_hold xs (four great) a (four_of shift) ha great_holds (sub binary64) (λ x y. x -ℤ y)
-      (λ k. (
-        down_fits (number_in k a) (number_in k (four_of shift)) (h k) (number_in-four_of shift k),
-        sub_doubles 1 whole_scale (number_in k a) (number_in k (four_of shift)) (ha.whole k) (great_holds.whole k),
-      )) _ refl
-
-  up_holds : Holds 1 (zip2 (add binary64) xs (four great)) up
-  unfolding up
-  up_holds = calculated_hold xs (four great) a (four_of shift) ha great_holds (add binary64) (λ x y. x +ℤ y)
-      (λ k. (
-        up_fits (number_in k a) (number_in k (four_of shift)) (h k) (number_in-four_of shift k),
-        add_doubles 1 whole_scale (number_in k a) (number_in k (four_of shift)) (ha.whole k) (great_holds.whole k),
-      )) _ refl
-
-  pub plus_shifted : Lanes
-  plus_shifted = zip_lanes (λ x y. x +ℤ y) down b
-
-  pub minus_shifted : Lanes
-  minus_shifted = zip_lanes (λ x y. x -ℤ y) up b
-
-  pub plus_shifted_holds : Holds 1 (zip2 (add binary64) (zip2 (sub binary64) xs (four great)) ys) plus_shifted
-  unfolding plus_shifted
-  plus_shifted_holds = calculated_hold _ ys down b down_holds hb (add binary64) (λ x y. x +ℤ y)
-      (λ k. (
-        plus_fits (number_in k a) (number_in k b) (number_in k down) (h k) (small_in k) (down_in k),
-        add_doubles 1 whole_scale (number_in k down) (number_in k b) (down_holds.whole k) (hb.whole k),
-      )) _ refl
-
-  pub minus_shifted_holds : Holds 1 (zip2 (sub binary64) (zip2 (add binary64) xs (four great)) ys) minus_shifted
-  unfolding minus_shifted
-  minus_shifted_holds = calculated_hold _ ys up b up_holds hb (sub binary64) (λ x y. x -ℤ y)
-      (λ k. (
-        minus_fits (number_in k a) (number_in k b) (number_in k up) (h k) (small_in k) (up_in k),
-        sub_doubles 1 whole_scale (number_in k up) (number_in k b) (up_holds.whole k) (hb.whole k),
-      )) _ refl
-
-  module _ (r : Lanes) (k : Lane) where
-    pub plus_shifted_in : r ≡ plus_shifted → number_in k r ≡ sum (number_in k a) (number_in k (unshifted b))
-    unfolding plus_shifted
-    plus_shifted_in e =
-        ap (number_in k) e ∙ number_in-zip_lanes (λ x y. x +ℤ y) down b k
-        ∙ plus_is (number_in k a) (number_in k b) (number_in k down) (h k) (small_in k) (down_in k)
-        ∙ ap (sum (number_in k a)) (sym (number_in-unshifted b k))
-
-    pub minus_shifted_in : r ≡ minus_shifted → number_in k r ≡ difference (number_in k a) (number_in k (unshifted b))
-    unfolding minus_shifted
-    minus_shifted_in e =
-        ap (number_in k) e ∙ number_in-zip_lanes (λ x y. x -ℤ y) up b k
-        ∙ minus_is (number_in k a) (number_in k b) (number_in k up) (h k) (small_in k) (up_in k)
-        ∙ ap (difference (number_in k a)) (sym (number_in-unshifted b k))
-
-    pub plus_shifted_size : r ≡ plus_shifted → unsigned_abs (number_in k r) ≤ unsigned_abs (number_in k a) + 536870912
-    unfolding plus_shifted
-    plus_shifted_size e =
-        rw (e, number_in-zip_lanes (λ x y. x +ℤ y) down b k) (plus_size (number_in k a) (number_in k b) (number_in k down) (small_in k) (down_in k))
-
-    pub minus_shifted_size : r ≡ minus_shifted → unsigned_abs (number_in k r) ≤ unsigned_abs (number_in k a) + 536870912
-    unfolding minus_shifted
-    minus_shifted_size e =
-        rw (e, number_in-zip_lanes (λ x y. x -ℤ y) up b k) (minus_size (number_in k a) (number_in k b) (number_in k up) (small_in k) (up_in k))
+    in_lane : (k : Lane) → number_in k (numerators 1 (zip2 q (zip2 p xs (four great)) ys)) ≡ both (number_in k a) (number_in k sums)
+    in_lane k = ap (number_in k) (view_is 1 whole_scale _ _ holds) ∙ number_in-zip_lanes both a sums k
 
 -- ---- the difference of two shifted numbers
 

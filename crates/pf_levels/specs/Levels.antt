@@ -1,6 +1,6 @@
 -- Levels of rows: no two rows of a level have a dynamic body in common, and of two rows of one body
 -- the one that comes first is in the level that comes first.
-use Rattle.std.specs.Prelude.{◌≡◌, ◌≢◌, ◌<◌, ◌++◌, ◌∷◌, ⊤, ℕ, All, Bool, false, List, [], Some, length, slice_get}
+use Rattle.std.specs.Prelude.{◌≡◌, ◌≢◌, ◌<◌, ◌++◌, ◌∷◌, ⊤, ℕ, All, List, [], Some, length, slice_get}
 use Rattle.std.specs.List.{concat, range_with_len}
 use Rattle.pf_rows.specs.declared.row.Side.{Side}
 use Rattle.pf_rows.specs.Row.{AreApart, IsSide, Row}
@@ -60,13 +60,3 @@ IsLevel pairs (p ∷ level) = All (λ q. (p ≢ q) × ShareNoBodyAt pairs p q) l
 pub record AreLevels (pairs : List RowPair) (levels : List (List ℕ)) : Type 0 where
   pub order : IsOrder pairs (concat levels)
   pub apart : All (IsLevel pairs) levels
-
--- levels, the pairs of the rows that they were made of, and whether no fewer ones are searched for
--- any more
-pub record Leveling : Type 0 where
-  pub pairs : List RowPair
-  pub levels : List (List ℕ)
-  pub are_final : Bool
-
-abbrev pub no_levels : Leveling
-no_levels = record { pairs = []; levels = []; are_final = false }

@@ -1,5 +1,5 @@
 -- Rows that are listed in another order.
-use Rattle.std.specs.Prelude.{ℕ, ◌-◌, List, slice_index_or}
+use Rattle.std.specs.Prelude.{ℕ, List, slice_index_or}
 use Rattle.pf_rows.specs.declared.row.Side.TheVariants.{Static}
 use Rattle.pf_levels.specs.Levels.{RowPair}
 
@@ -10,7 +10,3 @@ row_pair_at pairs p = slice_index_or pairs p (record { first = Static; second = 
 -- the place of the row that has this number in an order
 abbrev pub place_at : List ℕ → ℕ → ℕ
 place_at order number = slice_index_or order number 0
-
--- the place of the row that has this number from the end, of so many rows
-abbrev pub place_from_end : ℕ → ℕ → ℕ
-place_from_end count number = count - 1 - number

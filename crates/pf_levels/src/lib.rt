@@ -9,7 +9,6 @@ mod levels;
 mod links;
 mod listing;
 mod overlap;
-mod packing;
 mod pair;
 
 pub use level::{Level, WIDTH};

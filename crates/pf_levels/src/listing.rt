@@ -1,8 +1,8 @@
 //! Rows that are listed in another order, by their places in the list.
 
-ghost use Rattle.std.specs.Prelude.{◌≡◌, ◌-◌, ◌<◌, ◌++◌, All, OnOk, length, map};
+ghost use Rattle.std.specs.Prelude.{◌≡◌, ◌<◌, ◌++◌, All, OnOk, length, map};
 ghost use Rattle.std.specs.List.{concat};
-ghost use Rattle.pf_levels.specs.Order.{row_pair_at, place_at, place_from_end};
+ghost use Rattle.pf_levels.specs.Order.{row_pair_at, place_at};
 
 use crate::level::Level;
 use crate::pair::RowPair;
@@ -16,16 +16,6 @@ pub(crate) fn add_places(order: &mut Vec<usize>, levels: &[Level]) -> Result<(),
         order.extend_from_slice(level.places())?;
     }
     Ok(())
-}
-
-/// Numbers from the end what was numbered from the start, where there are so many rows.
-pub(crate) fn number_from_end(order: &mut [usize], count: usize)
-    requires { All (λ number. number < count) order.old }
-    ensures { order.new ≡ map (place_from_end count) order.old }
-{
-    for number in order.iter_mut() {
-        *number = count - 1 - *number;
-    }
 }
 
 /// Lists the pairs of the rows at these places.

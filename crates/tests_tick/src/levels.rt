@@ -88,31 +88,6 @@ fn full_levels_are_passed_over(rt: HostRuntime) -> Result<(), Fail> {
     Ok(())
 }
 
-/// Whether fewer levels are found by the second update with the same pairs, and then by no other.
-fn are_fewer(levels: &mut Levels) -> Result<bool, AllocError> {
-    let pairs = [
-        ground(0),
-        ground(1),
-        ground(2),
-        ground(3),
-        pair(4, 5),
-        pair(5, 6),
-        pair(6, 7),
-    ];
-    let first = are_found(levels, &pairs, 8, &[&[0, 1, 2, 3], &[4], &[5], &[6]])?;
-    let second = are_found(levels, &pairs, 8, &[&[4, 0, 1, 2], &[5, 3], &[6]])?;
-    let third = are_found(levels, &pairs, 8, &[&[4, 0, 1, 2], &[5, 3], &[6]])?;
-    Ok(first && second && third)
-}
-
-#[test]
-fn fewer_levels_are_found_where_pairs_stay_the_same(rt: HostRuntime) -> Result<(), Fail> {
-    let mut levels = Levels::new(rt.alloc());
-    let is_so = are_fewer(&mut levels)?;
-    assert!(rt; is_so);
-    Ok(())
-}
-
 #[test]
 fn laws_are_called(_rt: HostRuntime) {
     laws::named_limits();

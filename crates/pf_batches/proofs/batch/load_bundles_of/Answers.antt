@@ -10,8 +10,8 @@ pub load_bundles-requires-clause-pairs : goal.load_bundles-requires-clause-pairs
 load_bundles-requires-clause-pairs c =
     let b = batch_of c.args.islands.now in
     let many : length b.rows ≡ length c.args.pairs.now = sym (ap length c.requires.pairs ∙ length-map b.rows pair_of) in
-    subst (λ levels. All (All (λ p. p < length c.args.pairs.now)) levels) (sym c.levels.ensures.levels)
-    (subst (λ n. All (All (λ p. p < n)) c.args.levels.now.levels) many (levels_within b c.args.levels.now.levels c.requires.levels))
+    subst (λ levels. All (All (λ p. p < length c.args.pairs.now)) levels) (sym c.levels.ensures)
+    (subst (λ n. All (All (λ p. p < n)) c.args.levels.now) many (levels_within b c.args.levels.now c.requires.levels))
 
 pub load_bundles-requires-clause-rows : goal.load_bundles-requires-clause-rows
 load_bundles-requires-clause-rows c =
@@ -19,5 +19,5 @@ load_bundles-requires-clause-rows c =
     let held : AreHeldBy c.load_rows.new.lanes.items b.rows = search rules in
     let many : length b.rows ≡ length c.deref.result.now =
     sym (ap length c.deref.ensures.value ∙ as_many_held c.load_rows.new.lanes.items b.rows held) in
-    subst (λ levels. All (All (λ p. p < length c.deref.result.now)) levels) (sym c.levels.ensures.levels)
-    (subst (λ n. All (All (λ p. p < n)) c.args.levels.now.levels) many (levels_within b c.args.levels.now.levels c.requires.levels))
+    subst (λ levels. All (All (λ p. p < length c.deref.result.now)) levels) (sym c.levels.ensures)
+    (subst (λ n. All (All (λ p. p < n)) c.args.levels.now) many (levels_within b c.args.levels.now c.requires.levels))

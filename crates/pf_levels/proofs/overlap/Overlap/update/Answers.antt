@@ -24,8 +24,8 @@ returns c =
     let listed : order ≡ late_then_early c.args.early c.args.levels.now = search rules in
     let pairs_are : c.deref-2.result.now ≡ map (row_pair_at pairs) order = search rules in
     let are : AreLevels (map (row_pair_at pairs) order) levels =
-    subst (AreLevels (map (row_pair_at pairs) order)) (sym c.levels.ensures.levels)
-    (subst (λ ps. AreLevels ps c.update.new.self.levels) pairs_are c.in_ok-update.ensures.levels) in
+    subst (AreLevels (map (row_pair_at pairs) order)) (sym c.levels.ensures)
+    (subst (λ ps. AreLevels ps c.update.new.self) pairs_are c.in_ok-update.ensures.levels) in
     let same : c.deref-3.result.now ≡ order = search rules in
     on_ok_weaker c.list_levels.result
     (λ places.

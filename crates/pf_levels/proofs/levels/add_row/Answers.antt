@@ -4,7 +4,7 @@ use Rattle.std.specs.Prelude.{slice_get}
 use Rattle.pf_levels.specs.Levels.{IsRowPairOf, RowPair}
 use Rattle.pf_levels.specs.SoFar.{next_level}
 use Rattle.pf_levels.proofs.Steps.{added, grown}
-use Rattle.pf_levels.proofs.packing.add_row.Goals as goal
+use Rattle.pf_levels.proofs.levels.add_row.Goals as goal
 
 pub returns-clause-levels : goal.returns-clause-levels
 returns-clause-levels c = λ pairs at so_far.

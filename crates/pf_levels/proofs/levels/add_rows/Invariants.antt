@@ -1,7 +1,7 @@
 use Rattle.std.proofs.Common.{◌≡◌, length}
 use Rattle.pf_levels.specs.Links.{AreLinks}
 use Rattle.pf_levels.specs.SoFar.{AreLevelsUpTo}
-use Rattle.pf_levels.proofs.packing.add_rows.Given as goal
+use Rattle.pf_levels.proofs.levels.add_rows.Given as goal
 
 abbrev pub invariant-loop-place : goal.invariant-loop-place
 invariant-loop-place l = record {
