@@ -275,8 +275,9 @@ class Scene:
         key = self._key
         return self._context.output(c_uint64, "scene_add_box", key, material, *arguments).value
 
-    def peer(self, player=0, ring=16):
-        """A peer of this scene."""
+    def peer(self, player, ring=16):
+        """The peer of a player, 0 to 7, who has to be named: two peers of one player would issue
+        commands under the same names. It keeps the last `ring` worlds, 1 to 64."""
         key = self._context.output(_Key, "peer_new", self._key, player, ring)
         return Peer(self._context, key)
 

@@ -33,7 +33,7 @@ def replay(match, tick):
     end = next(ends, len(lines))
     frames = [line.split()[2] for line in lines[end:] if line.startswith(b"take ")]
     with Context() as context:
-        peer = context.read_scene(b"".join(lines[: end + 1])).peer()
+        peer = context.read_scene(b"".join(lines[: end + 1])).peer(0)
         for frame in frames:
             peer.take(bytes.fromhex(frame.decode()))
         peer.advance(tick)

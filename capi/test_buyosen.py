@@ -45,6 +45,9 @@ class Calls(unittest.TestCase):
         told = "line 2: no such line may stand here (PF_SCENE_BAD_LINE)"
         self.assertEqual((error.line, str(error)), (2, told))
 
+    def test_a_peer_is_told_its_player(self):
+        self.assertRaises(TypeError, self.scene.peer)
+
     def test_late_frames_make_worlds_equal(self):
         ours, theirs = self.scene.peer(0, 8), self.scene.peer(1, 8)
         frames = [ours.push(self.box, (6 * ONE, 0)), ours.turn(self.box, ONE), ours.stop(self.box)]
@@ -59,7 +62,7 @@ class Calls(unittest.TestCase):
         self.assertEqual(bytes_of(ours), bytes_of(theirs))
 
     def test_a_seal_moves_the_horizon(self):
-        peer = self.scene.peer()
+        peer = self.scene.peer(0)
         frame = peer.stop(self.box)
         peer.advance(9)
         peer.seal(5)
@@ -68,7 +71,7 @@ class Calls(unittest.TestCase):
         self.assert_code(BAD_NUMBER, peer.push, self.box, (1 << 60, 0))
 
     def test_no_number_is_cut_off(self):
-        peer = self.scene.peer()
+        peer = self.scene.peer(0)
         for call, *numbers in (
             (peer.push, 1 << 16, (0, 0)),
             (peer.push, self.box, (1 << 63, 0)),
@@ -84,7 +87,7 @@ class Calls(unittest.TestCase):
             self.assertRaises(ValueError, call, *numbers)
 
     def test_no_component_is_dropped(self):
-        peer = self.scene.peer()
+        peer = self.scene.peer(0)
         for what, call, *arguments in (
             ("impulse", peer.push, self.box, (5,)),
             ("impulse", peer.push, self.box, (5, 6, 7)),
@@ -109,7 +112,7 @@ class Calls(unittest.TestCase):
         self.assertEqual(late.take(memoryview(b"-" + frame)[1:]), "same")
         text = b"gravity 0 0\nend\n"
         for scene in text, bytearray(text), memoryview(text), text.decode():
-            self.assertEqual(self.context.read_scene(scene).peer().reached, 0)
+            self.assertEqual(self.context.read_scene(scene).peer(0).reached, 0)
         for what, call, argument in (
             ("frame", late.take, frame.hex()),
             ("frame", late.take, FRAME_LEN),
@@ -137,7 +140,7 @@ class Calls(unittest.TestCase):
         self.assertEqual(list(map(bytes, peer.base().bodies)), list(map(bytes, world.bodies)))
 
     def test_what_is_freed_has_no_key(self):
-        peer = self.scene.peer()
+        peer = self.scene.peer(0)
         self.scene.free()
         self.assert_code(BAD_KEY, self.scene.peer)
         self.assertEqual(len(peer.world(0).bodies), 3)

@@ -90,13 +90,16 @@ export class Scene extends Owned {
    * Adds a box, and returns its number, as `circle` does.
    * @param {BodyOptions & {half: Vector, angle?: number, direction?: Vector}} options its half
    *   extents in metres, each from 1/16 to 1,024, and how it is turned: by an angle in radians, or
-   *   into a direction, [cosine, sine]; not at all if neither is given
+   *   into a direction, [cosine, sine]; not at all if neither is given, and both are a TypeError
    */
   box(options) {
     const others = ["angle", "direction", ...BODY_OPTIONS];
     checkOptions("box", options, ["at", "half"], others);
-    const { at, half, angle = 0, direction: into } = options;
-    const turned = into === undefined ? direction(angle) : rawVector(into, "direction");
+    const { at, half, angle, direction: into } = options;
+    if (angle !== undefined && into !== undefined) {
+      throw new TypeError("box: an angle or a direction is wanted, not both");
+    }
+    const turned = into === undefined ? direction(angle ?? 0) : rawVector(into, "direction");
     const placed = { at: rawVector(at, "at"), direction: turned };
     const size = { half: rawVector(half, "half") };
     return this.#add({ kind: "box", ...materialOf(options), ...size, ...placed });
