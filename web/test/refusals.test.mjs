@@ -185,6 +185,10 @@ test("options that are unknown or missing are named", () => {
     [`circle: there is no option raduis: it takes ${take}`, () => scene.circle({ raduis: 1 })],
     ["circle: the option radius is missing", () => scene.circle({ at })],
     ["box: the option at is missing", () => scene.box({ half: [1, 1], angle: 1 })],
+    [
+      "box: an angle or a direction is wanted, not both",
+      () => scene.box({ at, half: [1, 1], angle: 1, direction: [1, 0] }),
+    ],
     ["Scene: there is no option g: it takes gravity", () => new Scene({ g: [0, 0] })],
     ["Peer: the option player is missing", () => new Peer(scene)],
     ["Peer: the option player is missing", () => new Peer(scene, { ring: 8 })],
