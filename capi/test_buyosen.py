@@ -142,7 +142,7 @@ class Calls(unittest.TestCase):
     def test_what_is_freed_has_no_key(self):
         peer = self.scene.peer(0)
         self.scene.free()
-        self.assert_code(BAD_KEY, self.scene.peer)
+        self.assert_code(BAD_KEY, self.scene.peer, 0)
         self.assertEqual(len(peer.world(0).bodies), 3)
         peer.free()
         self.assert_code(BAD_KEY, peer.advance)
@@ -151,13 +151,13 @@ class Calls(unittest.TestCase):
         with Context() as context:
             scene = context.scene((0, 0))
             context.close()
-        self.assert_code(CLOSED, scene.peer)
+        self.assert_code(CLOSED, scene.peer, 0)
         self.assert_code(CLOSED, context.close)
 
     def test_a_peer_of_another_context_is_no_other(self):
         with Context() as context:
-            foreign = context.scene((0, 0)).peer()
-            self.assertRaises(ValueError, self.scene.peer().merge, foreign)
+            foreign = context.scene((0, 0)).peer(0)
+            self.assertRaises(ValueError, self.scene.peer(0).merge, foreign)
 
 
 class Replay(unittest.TestCase):
