@@ -78,7 +78,7 @@ impl Peer {
             OnOk result (polled.new.refused ≡ polled.old.refused + refused) }
         ensures memory { OnErr result (refusal_of (setting_of self.old) frame ≡ None) }
         ensures held { OnErr result
-            (¬ IsHeld (scripted_player self.new).commands (decode frame)) }
+            (¬ IsHeld (scripted_player self.old).commands (decode frame)) }
         ensures err { OnErr result (self.new.core ≡ self.old.core) }
         ensures again { OnErr result (self.new.kept ≡ Some frame) }
         ensures inputs { self.new.inputs ≡ self.old.inputs }

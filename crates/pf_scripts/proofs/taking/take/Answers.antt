@@ -2,7 +2,6 @@ use Rattle.std.proofs.Common.{rules, ◌≡◌, ◌∙◌, ◌++◌, [], Err, ap
 use Rattle.std.specs.Prelude.{All}
 use Rattle.pf_commands.specs.Merge.{IsCommand, put_all}
 use Rattle.pf_rollback.specs.declared.error.PeerError.TheVariants.{OutOfMemory, Refused}
-use Rattle.pf_rollback.specs.Calls.{IsHeld}
 use Rattle.pf_rollback.specs.Peer.{Peer}
 use Rattle.pf_scripts.specs.Frames.{Setting, commands_of_decoded, core_setting, refusal_of_decoded}
 use Rattle.pf_scripts.proofs.Puts.{decoded_ranges, not_refused, refused, taken}
@@ -73,9 +72,3 @@ returns-in-Err-OutOfMemory-clause-memory c =
     let was : c.put.result ≡ Err OutOfMemory = search rules in
     ap (refusal_of_decoded s) (sym c.in-Ok.ensures.exact)
     ∙ not_refused s p c.in-Ok.command refl c.put.new.self.peer c.put.result was c.put.ensures.peer
-
-pub returns-in-Err-OutOfMemory-clause-held : goal.returns-in-Err-OutOfMemory-clause-held
-returns-in-Err-OutOfMemory-clause-held c = λ held.
-    let was : c.put.result ≡ Err OutOfMemory = search rules in
-    let here = subst (IsHeld c.args.core.now.peer.commands) (sym c.in-Ok.ensures.exact) held in
-    absurd (c.put.ensures.no_memory here was)
