@@ -60,8 +60,11 @@ _LIMITS |= {c_int64: (-(2**63), 2**63 - 1)}
 
 
 def _within(kind, value):
-    """A value that a parameter of this kind can hold: ctypes would cut a number off."""
-    if kind in _LIMITS and isinstance(value, int):
+    """A value that a parameter of this kind can hold: ctypes would cut a number off, and its error
+    of another type is no TypeError."""
+    if kind in _LIMITS:
+        if not isinstance(value, int):
+            raise TypeError(f"a whole number is wanted, not {value!r}")
         low, high = _LIMITS[kind]
         if not low <= value <= high:
             raise ValueError(f"{value} is no number from {low} to {high}")
@@ -322,6 +325,8 @@ class Peer:
         return self._output(c_uint64, "merge_alone", self._key_of(other)).value
 
     def _key_of(self, other):
+        if not isinstance(other, Peer):
+            raise TypeError(f"other: a Peer is wanted, not {other!r}")
         if other._context is not self._context:
             raise ValueError("a peer of another context")
         return other._key
