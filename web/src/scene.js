@@ -161,8 +161,9 @@ function checkText(text) {
   try {
     core.bytes(at, bytes.length).set(bytes);
     const line = core.output + 8;
+    core.view.setBigUint64(line, 0n, true); // it is written only where a line is invalid
     const code = core.code("scene_read", at, BigInt(bytes.length), core.output, line);
-    core.check(code, "scene_read", core.told(8));
+    core.check(code, "scene_read", core.told(8) || undefined);
     core.call("scene_free", ...core.toldKey());
   } finally {
     core.free(at);
