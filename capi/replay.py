@@ -8,6 +8,7 @@ printed is what `show 0 TICK` prints behind all of them, byte for byte.
 """
 
 import sys
+from pathlib import Path
 
 sys.dont_write_bytecode = True
 
@@ -58,9 +59,13 @@ def main():
     if len(words) != 2 or not words[1].isdecimal():
         print(__doc__.strip(), file=sys.stderr)
         return 2
-    with open(words[0], "rb") as file:
-        for line in replay(file.read(), int(words[1])):
-            print(line)
+    try:
+        match = Path(words[0]).read_bytes()
+    except OSError as error:
+        print(f"replay: {error}", file=sys.stderr)
+        return 2
+    for line in replay(match, int(words[1])):
+        print(line)
     return 0
 
 
