@@ -23,10 +23,14 @@ unfoldable pub allocates : Progress → List (List ℕ) → Bool
 allocates (More reader) fields = is_body_line fields
 allocates (Ended scene) fields = false
 
--- a scene's text by its lines
+-- a scene's text by its lines, which are lent nothing that they may change
 abbrev pub scene_rules : Rules Progress SceneFault
-scene_rules =
-    record { transition = transition; line_error = scene_fault_of; allocates = allocates }
+scene_rules = record {
+  transition = transition;
+  line_error = scene_fault_of;
+  allocates = allocates;
+  changes_lent = λ state fields. false;
+}
 
 -- a text begins with a scene of at most `MAX_BODIES`
 abbrev pub opening : Progress

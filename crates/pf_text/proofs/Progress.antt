@@ -1,6 +1,7 @@
 -- How far a run came, and what each exit of the driver makes of that.
-use Rattle.std.proofs.Common.{◌≡◌, true, ℕ, ◌+◌, ◌-◌, ◌<◌, ◌^◌, List, [], ◌∷◌, ◌++◌, length, Option, Some, Ok, Err, IsOk, inl, inr, refl, sym, ap, subst, ◌∙◌, append_assoc, append-nil, arith}
+use Rattle.std.proofs.Common.{◌≡◌, Bool, true, false, String, ℕ, ◌+◌, ◌-◌, ◌<◌, ◌^◌, List, [], ◌∷◌, ◌++◌, length, Option, Some, Ok, Err, IsOk, inl, inr, refl, sym, ap, subst, ◌∙◌, append_assoc, append-nil, arith}
 use Rattle.std.specs.Io.KnownBytes.{Appends}
+use Rattle.std.specs.Global.{Global}
 use Rattle.std.specs.List.{flat_map}
 use Rattle.std.proofs.lemmas.Bool.{lt-leb}
 use Rattle.std.proofs.lemmas.Grind.{flat_map-append}
@@ -14,10 +15,10 @@ use Rattle.pf_text.specs.declared.driver.TakeError.{TakeError}
 use Rattle.pf_text.specs.declared.driver.TakeError.TheVariants as take_errors
 use Rattle.pf_text.specs.declared.driver.DriveError.TheVariants as errors
 use Rattle.pf_text.specs.Lines.{AppendsPrefix, AreLines, Takes, terminated_line, is_line, lines_of}
-use Rattle.pf_text.specs.Streams.{Transfer}
+use Rattle.pf_text.specs.Streams.{Streams, Transfer, IfExposed}
 use Rattle.pf_text.proofs.Taking.{appends_known}
 use Rattle.pf_text.proofs.LinesOf.{lines_of-AreLines, lines_of-terminated_line, lines_of-last, lines_of-front}
-use Rattle.pf_text.specs.Driver.{Rules, Output, TakesLine, LeadTo, StopsForMemory, Drives, CountsReads, CountsWrites, Produces, fault_at, line_allocates, line_step, lines_output, and_then, text_output}
+use Rattle.pf_text.specs.Driver.{Rules, Output, TakesLine, LeadTo, StopsForMemory, StopsAtChange, Drives, RunKeepsLent, KeepsLent, CountsReads, CountsWrites, Produces, fault_at, line_allocates, line_changes_lent, line_step, lines_output, and_then, text_output}
 
 -- an output behind what was written
 abbrev pub joined : {S F : Type 0} → List ℕ → Output S F → Output S F
@@ -103,6 +104,17 @@ module _ {S F : Type 0} {rules : Rules S F} {start : S} {input before : List ℕ
     valid = valid;
     after_is = p.after_is;
     cause = inl (record { line = line; takes = takes_line taken line left' t ne; allocates = some; valid = ok });
+  }
+
+  -- where it may have changed what that line was lent
+  pub Stops-change : (taken : Taken) (line : List ℕ) (left' : Option (List ℕ)) → Takes p.rest line left' (Ok taken)
+      → (taken ≡ End → ⊥) → line_allocates rules state line ≡ true → IsOk (line_step rules state line)
+      → line_changes_lent rules state line ≡ true → StopsAtChange rules start (transfer input before left' after)
+  unfolding Drives-memory
+  Stops-change taken line left' t ne some ok changes = record {
+    stops = Drives-memory taken line left' t ne some ok;
+    stop = record { line = line; takes = takes_line taken line left' t ne; allocates = some; valid = ok };
+    changes = changes;
   }
 
   -- where no number is left for a line
@@ -293,3 +305,13 @@ pub Counts-refused : {F : Type 0} (number before after : ℕ) (refusal : TakeErr
     × CountsWrites {T = ℕ} {F = F} before (Err (fault_at number refusal)) after
 Counts-refused number before after take_errors.Memory counted = (counted, counted)
 Counts-refused number before after (take_errors.Fault fault) counted = (counted, counted)
+
+-- where the machine did not take a line, what that was lent is as before, or it may have changed it
+pub RunKeepsLent-refused : {S F L : Type 0} (rules : Rules S F) (start : S) (s : Streams) (number : ℕ) (may_change : Bool)
+    (refusal : TakeError F) (first before after : L) → before ≡ first
+    → KeepsLent {T = String Global × S} (Err refusal) may_change before after
+    → (refusal ≡ take_errors.Memory → may_change ≡ true → IfExposed s (λ t. StopsAtChange rules start t))
+    → RunKeepsLent {T = ℕ × S} rules start s (Err (fault_at number refusal)) first after
+RunKeepsLent-refused rules start s number true take_errors.Memory first before after same kept stops = inr (stops refl refl)
+RunKeepsLent-refused rules start s number false take_errors.Memory first before after same kept stops = inl (kept ∙ same)
+RunKeepsLent-refused rules start s number may_change (take_errors.Fault fault) first before after same kept stops = kept ∙ same

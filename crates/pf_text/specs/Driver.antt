@@ -13,7 +13,7 @@ use Rattle.pf_text.specs.declared.lines.Taken.TheVariants.{End}
 use Rattle.pf_text.specs.declared.lines.TheConstants.{MAX_LINE}
 use Rattle.pf_text.specs.Fields.{fields_of}
 use Rattle.pf_text.specs.Lines.{lines_of, is_line, AreLines, Takes}
-use Rattle.pf_text.specs.Streams.{Transfer}
+use Rattle.pf_text.specs.Streams.{Streams, Transfer, IfExposed}
 
 -- all bytes are of ASCII
 abbrev pub is_ascii : List ℕ → Bool
@@ -29,11 +29,13 @@ is_skipped [] = true
 is_skipped (byte ∷ bytes) = byte == 35
 
 -- what a machine does: its output for the fields of a line and its next state, or its error; its
--- error for a line that has no fields; and the fields for which it may take memory
+-- error for a line that has no fields; the fields for which it may take memory; and those for which
+-- it may change what the line is lent
 pub record Rules (S F : Type 0) : Type 0 where
   pub transition : S → List (List ℕ) → Result (List ℕ × S) F
   pub line_error : LineFault → F
   pub allocates : S → List (List ℕ) → Bool
+  pub changes_lent : S → List (List ℕ) → Bool
 
 -- a transition that writes nothing
 abbrev pub without_output : {S F : Type 0} → Result S F → Result (List ℕ × S) F
@@ -53,15 +55,21 @@ line_step rules state line =
     then (if is_skipped line then Ok ([], state) else fields_step rules state (fields_of line))
     else Err (rules.line_error BadLine)
 
-abbrev pub fields_allocate : {S F : Type 0} → Rules S F → S → Result (List (List ℕ)) LineFault
-    → Bool
-fields_allocate rules state (Ok fields) = rules.allocates state fields
-fields_allocate rules state (Err fault) = false
+abbrev pub fields_pass : Result (List (List ℕ)) LineFault → (List (List ℕ) → Bool) → Bool
+fields_pass (Ok fields) test = test fields
+fields_pass (Err fault) test = false
 
--- the machine may take memory for this line, which is not skipped and has fields
+-- the line is not skipped and has fields, which pass a test
+abbrev pub line_passes : List ℕ → (List (List ℕ) → Bool) → Bool
+line_passes line test = if is_skipped line then false else fields_pass (fields_of line) test
+
+-- the machine may take memory for this line
 abbrev pub line_allocates : {S F : Type 0} → Rules S F → S → List ℕ → Bool
-line_allocates rules state line =
-    if is_skipped line then false else fields_allocate rules state (fields_of line)
+line_allocates rules state line = line_passes line (rules.allocates state)
+
+-- the machine may change what this line is lent
+abbrev pub line_changes_lent : {S F : Type 0} → Rules S F → S → List ℕ → Bool
+line_changes_lent rules state line = line_passes line (rules.changes_lent state)
 
 -- what is written, and how it ends: with the number of the next line, or with that of the invalid
 -- line
@@ -141,6 +149,12 @@ module _ {S F : Type 0} (rules : Rules S F) (start : S) (t : Transfer) where
     pub after_is : t.after ≡ Some (t.before ++ text)
     pub cause : StopsAtValidLine lines state ⊎ SpendsNumbers lines
 
+  -- a machine ran out of memory at a valid line, and may have changed what the line was lent
+  pub record StopsAtChange : Type 0 where
+    pub stops : StopsForMemory
+    pub stop : StopsAtValidLine stops.lines stops.state
+    pub changes : line_changes_lent rules stops.state stop.line ≡ true
+
   -- The reader failed behind valid lines, whose output was written, in a part of the next line.
   pub record StopsForRead : Type 0 where
     pub lines : List (List ℕ)
@@ -180,6 +194,14 @@ module _ {S F : Type 0} (rules : Rules S F) (start : S) (t : Transfer) where
   Drives (Err errors.Read) = StopsForRead
   Drives (Err errors.Write) = StopsForWrite
 
+-- What the lines of a run were lent is as it was, unless a machine ran out of memory at a line that
+-- may change it.
+abbrev pub RunKeepsLent
+    : {S F T L : Type 0} → Rules S F → S → Streams → Result T (DriveError F) → L → L → Type 0
+RunKeepsLent rules start s (Err errors.Memory) before after =
+    (after ≡ before) ⊎ IfExposed s (λ transfer. StopsAtChange rules start transfer)
+RunKeepsLent rules start s result before after = after ≡ before
+
 -- a run that ends because its reader failed counts one failure of it, and any other run none
 abbrev pub CountsReads : {T F : Type 0} → ℕ → Result T (DriveError F) → ℕ → Type 0
 CountsReads before (Err errors.Read) after = after ≡ before + 1
@@ -201,3 +223,9 @@ abbrev pub Produces : {S F : Type 0} → Result (String Global × S) (TakeError 
 Produces (Ok reply) transition = transition ≡ Ok (string_bytes reply.0, reply.1)
 Produces (Err take_errors.Memory) transition = IsOk transition
 Produces (Err (take_errors.Fault fault)) transition = transition ≡ Err fault
+
+-- What a line is lent is as it was, unless the machine ran out of memory at fields for which it may
+-- change that.
+abbrev pub KeepsLent : {T F L : Type 0} → Result T (TakeError F) → Bool → L → L → Type 0
+KeepsLent (Err take_errors.Memory) true before after = Unit {0}
+KeepsLent result may_change before after = after ≡ before

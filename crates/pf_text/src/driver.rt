@@ -7,7 +7,7 @@ ghost use Rattle.std.specs.Io.KnownBytes.{Appends};
 ghost use Rattle.pf_text.specs.Fields.{parts_of};
 ghost use Rattle.pf_text.specs.Lines.{AppendsPrefix, Counts};
 ghost use Rattle.pf_text.specs.Streams.{IfExposed};
-ghost use Rattle.pf_text.specs.Driver.{Rules, Produces, Drives, CountsReads, CountsWrites, fault_at, line_step, line_allocates, is_ascii, is_plain, is_skipped};
+ghost use Rattle.pf_text.specs.Driver.{Rules, Produces, KeepsLent, Drives, RunKeepsLent, CountsReads, CountsWrites, fault_at, line_step, line_allocates, line_changes_lent, is_ascii, is_plain, is_skipped};
 
 use crate::fault::LineFault;
 use crate::fields::{field_count, split_into};
@@ -47,12 +47,13 @@ impl<F, T: Drop> From<AllocFailed<T>> for TakeError<F> {
 }
 
 /// What lines mean: a state that takes the fields of one line after the other. Each line is lent an
-/// `L`.
+/// `L`, which it may change only where it runs out of memory.
 pub trait Machine<L>: Drop {
     /// What can be wrong with a line.
     type Fault: Drop;
 
-    // Its output for fields and its next state, and its error for a line that has none.
+    // Its output for fields and its next state, its error for a line that has none, and what it may
+    // take and change for fields.
     ghost rules: { Rules Self Self.Fault };
 
     /// The error of a line that has no fields, is too long or not ASCII.
@@ -71,7 +72,9 @@ pub trait Machine<L>: Drop {
         ensures reply { Produces result
             (rules.transition self (map (λ field. field.now) fields.now)) }
         ensures memory { result ≡ Err take_errors.Memory
-            → rules.allocates self (map (λ field. field.now) fields.now) ≡ true };
+            → rules.allocates self (map (λ field. field.now) fields.now) ≡ true }
+        ensures kept { KeepsLent result
+            (rules.changes_lent self (map (λ field. field.now) fields.now)) lent.old lent.new };
 }
 
 /// Why a text was not processed to its end.
@@ -128,6 +131,8 @@ fn take_fields<'a, L, M: Machine<L>>(
     ensures reply { Produces result (M.rules.transition machine (parts_of line.now)) }
     ensures memory { result ≡ Err take_errors.Memory
         → M.rules.allocates machine (parts_of line.now) ≡ true }
+    ensures kept { KeepsLent result (M.rules.changes_lent machine (parts_of line.now))
+        lent.old lent.new }
 {
     let count = split_into(line, fields);
     machine.take(alloc, lent, &fields[..count])
@@ -146,6 +151,8 @@ fn take_many_fields<L, M: Machine<L>>(
     ensures reply { Produces result (M.rules.transition machine (parts_of line.now)) }
     ensures memory { result ≡ Err take_errors.Memory
         → M.rules.allocates machine (parts_of line.now) ≡ true }
+    ensures kept { KeepsLent result (M.rules.changes_lent machine (parts_of line.now))
+        lent.old lent.new }
 {
     take_fields(alloc, lent, machine, line, &mut [line; MAX_FIELDS])
 }
@@ -162,6 +169,8 @@ fn output<L, M: Machine<L>>(
     ensures reply { Produces result (line_step M.rules machine line.now) }
     ensures memory { result ≡ Err take_errors.Memory
         → line_allocates M.rules machine line.now ≡ true }
+    ensures kept { KeepsLent result (line_changes_lent M.rules machine line.now)
+        lent.old lent.new }
 {
     if !is_plain(line) {
         return Err(TakeError::Fault(M::line_error(LineFault::BadLine)));
@@ -225,7 +234,8 @@ fn write_text<W: Sink>(writer: &mut W, text: &str) -> Result<(), WriteFailed>
 ///
 /// A line that is empty or begins with `#` is counted and skipped. At the end it returns the number
 /// of the line after the last, and the machine. At an error the output for the lines before it was
-/// written. Only the machine takes memory.
+/// written. Only the machine takes memory. What is lent to the lines comes back as it was, unless
+/// the machine ran out of memory at a line that may change it.
 pub fn drive<L, M: Machine<L>, R: Source, W: Sink>(
     alloc: Global,
     lent: &mut L,
@@ -242,6 +252,13 @@ pub fn drive<L, M: Machine<L>, R: Source, W: Sink>(
       after = W.contents writer.new;
     })
         (λ transfer. Drives M.rules start transfer result) }
+    ensures lent { RunKeepsLent M.rules start (record {
+      unread = R.remaining reader.old;
+      left = R.remaining reader.new;
+      before = W.contents writer.old;
+      after = W.contents writer.new;
+    })
+        result lent.old lent.new }
     // An error of the reader or the writer is returned exactly where it failed in this call.
     ensures reads_counted { CountsReads (R.failures reader.old) result (R.failures reader.new) }
     ensures writes_counted { CountsWrites (W.failures writer.old) result (W.failures writer.new) }

@@ -1,11 +1,12 @@
 use Rattle.std.proofs.Common.{◌∙◌, Err, ap, rules}
 use Rattle.std.proofs.lemmas.Result.{err_from_is_err_and}
-use Rattle.pf_text.proofs.Progress.{Progress-none, Progress-next, Drives-spent, Drives-read, Drives-end, Drives-last, Drives-refused, Drives-write, Counts-refused}
+use Rattle.pf_text.proofs.Progress.{Progress-none, Progress-next, Drives-spent, Drives-read, Drives-end, Drives-last, Drives-refused, Drives-write, Counts-refused, RunKeepsLent-refused, Stops-change}
 use Rattle.pf_text.proofs.driver.drive.Goals as goal
 
 pub loop-number-init : goal.loop-number-init
 loop-number-init g c = record {
   so_far = λ input before left after. Progress-none _ _ _ _ _ _ left after;
+  lent_kept = search rules;
   no_read_failed = search rules;
   no_write_failed = search rules;
 }
@@ -32,6 +33,17 @@ returns-in-Err g c = record {
       rw c.fault_at.ensures (Drives-refused p c.in_ok-taken.taken c.take_line.new.line.items
       (g.R.Source.remaining c.take_line.new.source) c.in-Err.refusal (c.in_ok-taken.ensures.taken p.rest p.left_is)
       c.in_default.not-End said (λ e. some (ap (λ refusal. Err refusal) e)));
+  lent =
+      let kept = rw c.as_slice.ensures.value at c.in-Err.ensures.kept in
+      rw c.fault_at.ensures (RunKeepsLent-refused _ _ _ c.loop-number.number _ c.in-Err.refusal _ _ _
+      c.loop-number.invariant.lent_kept kept
+      (λ e changes input before left after.
+      let p = c.loop-number.invariant.so_far input before left after in
+      let said = rw (c.as_slice.ensures.value, e) at c.in-Err.ensures.reply in
+      let some = rw c.as_slice.ensures.value at c.in-Err.ensures.memory in
+      Stops-change p c.in_ok-taken.taken c.take_line.new.line.items (g.R.Source.remaining c.take_line.new.source)
+      (c.in_ok-taken.ensures.taken p.rest p.left_is) c.in_default.not-End (some (ap (λ refusal. Err refusal) e))
+      said changes));
   reads_counted = rw c.fault_at.ensures (Counts-refused c.loop-number.number _ _ c.in-Err.refusal
       (c.in_ok-taken.ensures.counted ∙ c.loop-number.invariant.no_read_failed)).0;
   writes_counted = rw c.fault_at.ensures (Counts-refused c.loop-number.number _ _ c.in-Err.refusal
@@ -65,6 +77,7 @@ loop-number-preserved g c = record {
       (g.W.Sink.contents c.write_text.new.writer) c.deref.result.now c.in-Ok.reply.1
       (c.in_ok-taken.ensures.taken p.rest p.left_is) c.in_default.not-End c.in_default-taken.not-Last said
       c.in_ok-write_text.ensures.ok;
+  lent_kept = c.in-Ok.ensures.kept ∙ c.loop-number.invariant.lent_kept;
   no_read_failed = c.in_ok-taken.ensures.counted ∙ c.loop-number.invariant.no_read_failed;
   no_write_failed = c.in_ok-write_text.ensures.counted ∙ c.loop-number.invariant.no_write_failed;
 }
