@@ -57,14 +57,6 @@ fn pairs_of_left(
     Ok(fresh)
 }
 
-/// Whether a pair is before another in ascending order.
-#[inline]
-fn is_before(first: &Pair, second: &Pair) -> bool
-    ensures { result ≡ is_before first.now second.now }
-{
-    (first.a < second.a) | ((first.a == second.a) & (first.b < second.b))
-}
-
 /// The pairs by new enlarged bounds. Candidates without a body of `left` must be pairs still: they
 /// are taken over. The pairs of `left` are searched for.
 #[inline(never)]
@@ -90,7 +82,7 @@ pub(crate) fn merge(
         let pair = &candidates[i];
         if is_left[pair.a] | is_left[pair.b] {
             i += 1;
-        } else if next < fresh.len() && is_before(&fresh[next], pair) {
+        } else if next < fresh.len() && fresh[next].is_before(pair) {
             merged.push_reserved(fresh[next]);
             next += 1;
         } else {

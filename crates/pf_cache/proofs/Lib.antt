@@ -25,4 +25,5 @@ pub mod Watching
 pub mod Refreshing
 pub mod EditsMade
 pub mod Filling
+pub mod FewTouches
 pub mod RefreshSteps

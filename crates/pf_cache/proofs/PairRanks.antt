@@ -1,49 +1,29 @@
 -- Pairs are in the order of their ranks.
-use Rattle.std.proofs.Common.{◌≡◌, ℕ, suc, ◌≤◌, ◌<◌, ◌==◌, ◌⊎◌, ⊎_elim, inl, inr, Bool, true, false, ◌&&◌, List, [], ◌∷◌, map, refl, sym, ap, ◌∙◌, true≢false, ltb-true, eqb-true, arith}
-use Rattle.std.specs.List.{AllByRecursion}
-use Rattle.std.specs.Prelude.{All}
-use Rattle.std.proofs.lemmas.Bool.{and_parts, cases_order, or_cases}
-use Rattle.std.proofs.lemmas.Bool.Decides.{Decides-eqb}
+use Rattle.std.proofs.Common.{◌≡◌, ℕ, suc, ◌+◌, ◌^◌, ◌<◌, ◌==◌, ◌⊎◌, inl, inr, Bool, true, false, ◌&&◌, List, [], ◌∷◌, map, refl, sym, ap, ◌∙◌, true≢false, eqb-true, arith}
+use Rattle.std.specs.Prelude.{All, nat_lt}
+use Rattle.std.proofs.lemmas.Bool.{and_parts, cases_order}
+use Rattle.std.proofs.lemmas.Bool.Decides.{Decides-eqb, nat_tests}
 use Rattle.std.proofs.lemmas.List.Elements.{All-head, All-tail}
 use Rattle.pf_shapes.specs.Pair.{IsAscending, IsPairOf, Pair, is_before}
 use Rattle.pf_shapes.specs.declared.scene.TheConstants.{MAX_BODIES}
 use Rattle.pf_manifold.specs.Key.{IsRising}
+use Rattle.pf_manifold.proofs.KeyOrder.{AreFrom, behind_from, from_zero, lowest}
+use Rattle.pf_manifold.proofs.Rising.{rising-weaken}
 use Rattle.pf_cache.specs.Slots.{pair_rank}
 
--- a pair that comes before another has the lower rank
-lower : (p q : Pair) → p.b < MAX_BODIES → is_before p q ≡ true → pair_rank p < pair_rank q
-lower p q small e =
-    ⊎_elim
-    (λ x. let less = ltb-true p.a q.a x in omega (arith, less, small))
-    (λ y.
-    let both = and_parts _ _ y in
-    let same = eqb-true p.a q.a both.0 in
-    let less = ltb-true p.b q.b both.1 in
-    omega (arith, same, less))
-    (or_cases _ _ e)
-
--- no pair is below this rank
-abbrev AreFrom : ℕ → List Pair → Type 0
-AreFrom least pairs = AllByRecursion (λ p. least ≤ pair_rank p) pairs
-
-behind_from : (p : Pair) (pairs : List Pair) → p.b < MAX_BODIES → AllByRecursion (λ q. is_before p q ≡ true) pairs
-    → AreFrom (suc (pair_rank p)) pairs
-behind_from p [] small h = tt
-behind_from p (q ∷ pairs) small h = (lower p q small h.0, behind_from p pairs small h.1)
+-- a pair is before another exactly where its rank is lower
+pub before_by_rank : (p q : Pair) → IsPairOf MAX_BODIES p → IsPairOf MAX_BODIES q
+    → is_before p q ≡ nat_lt (pair_rank p) (pair_rank q)
+before_by_rank p q hp hq = grind (arith, nat_tests)
 
 rise_from : (least : ℕ) (pairs : List Pair) → IsAscending pairs → All (IsPairOf MAX_BODIES) pairs
     → AreFrom least pairs → IsRising least (map pair_rank pairs)
 rise_from least [] up are from = tt
 rise_from least (p ∷ pairs) up are from =
-    let first = All-head (IsPairOf MAX_BODIES) p pairs are in (
-      from.0,
-      rise_from (suc (pair_rank p)) pairs up.1 (All-tail (IsPairOf MAX_BODIES) p pairs are)
-          (behind_from p pairs first.1 up.0),
-    )
-
-from_zero : (pairs : List Pair) → AreFrom 0 pairs
-from_zero [] = tt
-from_zero (p ∷ pairs) = (omega arith, from_zero pairs)
+    let first = All-head (IsPairOf MAX_BODIES) p pairs are in
+    let later = rise_from (lowest p + 2 ^ 8) pairs up.1 (All-tail (IsPairOf MAX_BODIES) p pairs are)
+    (behind_from p pairs (omega (arith, first.1)) up.0) in
+    (omega (arith, from.0), rising-weaken (suc (pair_rank p)) (lowest p + 2 ^ 8) _ (omega arith) later)
 
 -- ascending pairs are in the order of their ranks
 pub pairs_rise : (pairs : List Pair) → IsAscending pairs → All (IsPairOf MAX_BODIES) pairs

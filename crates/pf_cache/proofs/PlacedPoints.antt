@@ -1,10 +1,10 @@
 -- Contact points of slots with their places among all.
-use Rattle.std.proofs.Common.{◌≡◌, ◌<◌, ◌+◌, ◌∷◌, ◌++◌, [], ℕ, zero, suc, Bool, true, Option, Some, None, List, length, map, take, filter, get_or, ap, sym, ◌∙◌, refl, arith, append-nil, true≢false}
+use Rattle.std.proofs.Common.{◌≡◌, ◌<◌, ◌+◌, ◌∷◌, ◌++◌, [], ℕ, zero, suc, Bool, Option, Some, None, List, length, map, take, filter, get_or, ap, sym, ◌∙◌, refl, arith, append-nil}
 use Rattle.std.proofs.lemmas.List.{length-append, take_more}
 use Rattle.std.proofs.lemmas.List.Concat.{flat_map-append}
 use Rattle.std.proofs.lemmas.List.Elements.{All-cons, All-head, All-nil, All-tail, filter-append}
 use Rattle.std.specs.List.{enumerate_from, flat_map}
-use Rattle.std.specs.Prelude.{All, SomeIff, is_some, unwrap_or}
+use Rattle.std.specs.Prelude.{All, unwrap_or}
 use Rattle.pf_shapes.specs.Pair.{IsPairOf, Pair}
 use Rattle.pf_manifold.specs.ContactPoint.{ContactPoint}
 use Rattle.pf_manifold.specs.Manifold.{points_of}
@@ -95,12 +95,3 @@ none_before [] (suc i) none = refl
 none_before (s ∷ slots) zero none = refl
 none_before (s ∷ slots) (suc i) none =
     rw (front_nil (slot_touches s) (flat_map slot_touches slots) none) (none_before slots i (back_nil (slot_touches s) (flat_map slot_touches slots) none))
-
--- a sum that is checked
-pub some_where : (o : Option ℕ) (P : Type 0) (n : ℕ) → SomeIff o P n → P → is_some o ≡ true
-some_where None P n h p = absurd (h p)
-some_where (Some x) P n h p = refl
-
-pub some_is : (o : Option ℕ) (P : Type 0) (n m : ℕ) → SomeIff o P n → o ≡ Some m → m ≡ n
-some_is None P n m h e = absurd (true≢false (sym (ap is_some e)))
-some_is (Some x) P n m h e = let same : x ≡ m = ap (λ o. unwrap_or o x) e in sym same ∙ h.1

@@ -219,6 +219,20 @@ module _ (test : Slot → Bool) where
       let later = skipped_over (skipped + length (slot_touches s)) others (All-tail (λ x. test x ≡ false) s others fail) in
       rw (All-head (λ x. test x ≡ false) s others fail) (omega (arith, later, long))
 
+  -- they are among those of all slots
+  pub skipped_within : (skipped : ℕ) (slots : List Slot) → skipped_behind skipped slots ≤ skipped + length (flat_map slot_touches slots)
+  skipped_within skipped [] = omega arith
+  skipped_within skipped (s ∷ slots) =
+      by (test s) (skipped_within 0 slots) (skipped_within (skipped + length (slot_touches s)) slots) (length-append (slot_touches s) (flat_map slot_touches slots))
+    where
+      by : (b : Bool) → skipped_behind 0 slots ≤ 0 + length (flat_map slot_touches slots)
+          → skipped_behind (skipped + length (slot_touches s)) slots ≤ (skipped + length (slot_touches s)) + length (flat_map slot_touches slots)
+          → length (slot_touches s ++ flat_map slot_touches slots) ≡ length (slot_touches s) + length (flat_map slot_touches slots)
+          → (if b then skipped_behind 0 slots else skipped_behind (skipped + length (slot_touches s)) slots)
+          ≤ skipped + length (slot_touches s ++ flat_map slot_touches slots)
+      by true here there long = omega (arith, here, long)
+      by false here there long = omega (arith, there, long)
+
   none_passes : (place skipped : ℕ) (others : List Slot) → All (λ s. test s ≡ false) others → slot_places test place skipped others ≡ []
   none_passes place skipped [] fail = refl
   none_passes place skipped (s ∷ others) fail =

@@ -27,8 +27,9 @@ use Rattle.pf_manifold.specs.Touches.{Touch, touch_of, touches_between}
 use Rattle.pf_cache.specs.Live.{HasOwnTouches}
 use Rattle.pf_cache.specs.Ranked.{element_at}
 use Rattle.pf_cache.specs.Manifolds.{Manifolds, computed_count, is_reusable, is_unmoved, lists_pair, manifolds_of, placed_shapes, points_of_pair}
-use Rattle.pf_cache.specs.Slots.{AreSlots, IsFreshUnlessLive, HasSoundPoints, Slot, are_unmoved, carried_slot, is_of_pair, needs_points, overlapping, pair_rank, slot_of, slot_touches, touches_if, unmoved_flags}
+use Rattle.pf_cache.specs.Slots.{AreSlots, HasFewTouches, IsFreshUnlessLive, HasSoundPoints, Slot, are_unmoved, carried_slot, is_of_pair, needs_points, overlapping, pair_rank, slot_of, slot_touches, touches_if, unmoved_flags}
 use Rattle.pf_cache.proofs.Bounded.{length-placed_shapes}
+use Rattle.pf_cache.proofs.FewTouches.{few_of_shapes}
 use Rattle.pf_cache.proofs.Filling.{own}
 use Rattle.pf_cache.proofs.PairRanks.{pairs_rise, same_rank, same_test}
 use Rattle.pf_cache.proofs.Reusable.{Decides-pair, listed}
@@ -222,6 +223,10 @@ module _ (enlarged old : List Bounds) (stood : List PlacedShape) (kept : List Sl
   pub kept_touches_are_own : All HasOwnTouches kept
   kept_touches_are_own =
       subst (All HasOwnTouches) (sym are.each) (All-map HasOwnTouches (slot_of old stood) (pairs enlarged) (λ k e below. own_touches old stood (get_or (pairs enlarged) k e)))
+
+  pub kept_touches_are_few : All HasFewTouches kept
+  kept_touches_are_few =
+      subst (All HasFewTouches) (sym are.each) (All-map HasFewTouches (slot_of old stood) (pairs enlarged) (λ k e below. few_of_shapes old stood (get_or (pairs enlarged) k e)))
 
   module _ (p : Pair) (in_range : IsPairOf MAX_BODIES p) where
     carries : is_some (carried_slot kept p).touches ≡ lists_pair (overlapping kept) p

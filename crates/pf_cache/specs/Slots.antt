@@ -36,6 +36,10 @@ manifold_touches p (Some m) = Some (map (touch_of p) (points_of m))
 abbrev pub slot_touches : Slot → List Touch
 slot_touches s = unwrap_or s.touches []
 
+-- a slot has at most two contact points, as two convex shapes do
+abbrev pub HasFewTouches : Slot → Type 0
+HasFewTouches s = length (slot_touches s) ≤ 2
+
 -- the slot of two bodies with these bounds and shapes
 abbrev pub slot_of : List Bounds → List PlacedShape → Pair → Slot
 slot_of bounds shapes p = record {

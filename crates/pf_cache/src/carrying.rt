@@ -31,12 +31,12 @@ struct Passed {
 
 /// Whether a pair is before another in ascending order, which is the order of their ranks.
 #[inline]
-fn is_before(first: &Pair, second: &Pair) -> bool
+fn has_lower_rank(first: &Pair, second: &Pair) -> bool
     requires first { IsPairOf MAX_BODIES first.now }
     requires second { IsPairOf MAX_BODIES second.now }
     ensures { result ≡ nat_lt (pair_rank first.now) (pair_rank second.now) }
 {
-    (first.a < second.a) | ((first.a == second.a) & (first.b < second.b))
+    first.is_before(second)
 }
 
 /// Passes by the slots from `start` on whose pairs are before this one. Look-ups of this pair and
@@ -59,7 +59,7 @@ fn pass(old: &[Slot], start: usize, pair: &Pair) -> Passed
     let mut place = start;
     while place < old.len() {
         let slot = &old[place];
-        if !is_before(slot.pair(), pair) {
+        if !has_lower_rank(slot.pair(), pair) {
             return Passed {
                 end: place,
                 are_empty,

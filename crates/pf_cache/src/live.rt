@@ -67,14 +67,14 @@ fn live_places(
     ensures { IfOk result (λ live. AreLive watched.now live.items slots.now) }
 {
     let mut live = Vec::new(alloc);
-    let mut skipped = 0usize;
+    let mut skipped = 0;
     for (place, slot) in slots.iter().enumerate() {
         let pair = *slot.pair();
         if watched[pair.a] | watched[pair.b] {
             live.push(SlotPlace { place, skipped })?;
             skipped = 0;
         } else {
-            skipped = skipped.checked_add(slot.count()).ok_or(AllocError)?;
+            skipped += slot.count();
         }
     }
     Ok(live)

@@ -8,7 +8,7 @@ ghost use Rattle.pf_manifold.specs.Key.{IsRising, key_of};
 ghost use Rattle.pf_cache.specs.KeyEdits.{AreEditsBetween};
 ghost use Rattle.pf_cache.specs.Live.{AreLive};
 ghost use Rattle.pf_cache.specs.Manifolds.{placed_shapes};
-ghost use Rattle.pf_cache.specs.Slots.{IsFreshUnlessLive, HasSoundPoints, carried_slot, needs_points, pair_rank, slot_of, slot_touches};
+ghost use Rattle.pf_cache.specs.Slots.{HasFewTouches, IsFreshUnlessLive, HasSoundPoints, carried_slot, needs_points, pair_rank, slot_of, slot_touches};
 
 use crate::carrying::{Carried, carried_slots};
 use crate::key_edits::KeyEdits;
@@ -149,6 +149,7 @@ fn update_slots<C: Collider>(
     requires others { All (IsFreshUnlessLive placed.now.bounds unmoved.items live.now.watched.items)
         slots.old }
     requires kept { All (HasSoundPoints placed.now.shapes unmoved.items) slots.old }
+    requires touches { All HasFewTouches slots.old }
     ensures slots { IfOk result (λ _. slots.new
         ≡ map (slot_of placed.now.bounds placed.now.shapes) (map (λ s. s.pair) slots.old)) }
     ensures live { IfOk result

@@ -1,6 +1,6 @@
 //! A pair of bodies whose enlarged bounds overlap, with its contact points.
 
-ghost use Rattle.std.specs.Prelude.{◌≡◌, ◌↔◌, ◌<◌, ◌+◌, ◌++◌, ◌^◌, IsTrue, OnOk, length, map};
+ghost use Rattle.std.specs.Prelude.{◌≡◌, ◌↔◌, ◌≤◌, ◌<◌, ◌+◌, ◌++◌, ◌^◌, IsTrue, OnOk, length, map};
 ghost use Rattle.std.specs.List.{enumerate_from};
 ghost use Rattle.pf_shapes.specs.Pair.{IsPairOf};
 ghost use Rattle.pf_shapes.specs.declared.scene.TheConstants.{MAX_BODIES};
@@ -80,11 +80,13 @@ fn have_same_features(points: &Option<Manifold>, others: &Option<Manifold>) -> b
 /// How many contact points there are.
 #[inline]
 fn count_of(points: &Option<Manifold>) -> usize
-    ensures { result ≡ length (points_or_none points.now) }
+    ensures count { result ≡ length (points_or_none points.now) }
+    ensures few { result ≤ 2 }
 {
     match points {
-        Some(points) => points.count(),
-        None => 0,
+        None | Some(Manifold::Apart) => 0,
+        Some(Manifold::One(_)) => 1,
+        Some(Manifold::Two(_, _)) => 2,
     }
 }
 
@@ -127,7 +129,7 @@ fn key_of(pair: &Pair, point: &ContactPoint) -> Key
 }
 
 impl Slot {
-    ghost use Rattle.std.specs.Prelude.{◌≡◌, ◌<◌, ◌++◌, ◌+◌, ◌∷◌, ◌^◌, ◌==◌, ◌&&◌, All, IfOk, IsOk, List, None, OnOk, [], filter, if◌then◌else◌, length, map};
+    ghost use Rattle.std.specs.Prelude.{◌≡◌, ◌≤◌, ◌<◌, ◌++◌, ◌+◌, ◌∷◌, ◌^◌, ◌==◌, ◌&&◌, All, IfOk, IsOk, List, None, OnOk, [], filter, if◌then◌else◌, length, map};
     ghost use Rattle.std.specs.List.{enumerate_from};
     ghost use Rattle.pf_shapes.specs.Pair.{IsPairOf};
     ghost use Rattle.pf_shapes.specs.declared.scene.TheConstants.{MAX_BODIES};
@@ -175,7 +177,8 @@ impl Slot {
     /// How many contact points there are.
     #[inline]
     pub(crate) fn count(&self) -> usize
-        ensures { result ≡ length (slot_touches self.now) }
+        ensures count { result ≡ length (slot_touches self.now) }
+        ensures few { result ≤ 2 }
     {
         count_of(&self.points)
     }
@@ -202,7 +205,8 @@ impl Slot {
         kept: usize,
         edits: &mut KeyEdits,
     ) -> Result<usize, AllocError>
-        requires { IsPairOf MAX_BODIES self.old.pair }
+        requires pair { IsPairOf MAX_BODIES self.old.pair }
+        requires room { kept + length (slot_touches self.old) < 2 ^ 64 }
         ensures slot { OnOk result
             (self.new ≡ record self.old { touches = manifold_touches self.old.pair points }) }
         ensures edits { IfOk result (λ rest. (before after : List Key)
@@ -216,8 +220,7 @@ impl Slot {
         self.points = points;
         let added = self.count();
         if same_keys {
-            let rest = kept.checked_add(added).ok_or(AllocError)?;
-            return Ok(rest);
+            return Ok(kept + dropped);
         }
         edits.edits.push(KeyEdit {
             kept,

@@ -7,7 +7,7 @@ ghost use Rattle.pf_manifold.specs.Key.{key_of};
 ghost use Rattle.pf_manifold.specs.Touches.{IsTouchOf};
 ghost use Rattle.pf_cache.specs.Live.{AreLive, AreWatched, HasOwnTouches};
 ghost use Rattle.pf_cache.specs.Points.{flagged_points};
-ghost use Rattle.pf_cache.specs.Slots.{slot_touches};
+ghost use Rattle.pf_cache.specs.Slots.{HasFewTouches, slot_touches};
 
 use crate::live::Live;
 use crate::slot::Slot;
@@ -45,11 +45,11 @@ pub(crate) fn flagged_points_of(
     ensures no_memory { flat_map slot_touches slots.now ≡ [] → IsOk result }
 {
     let mut points = Vec::new(alloc);
-    let mut place = 0usize;
+    let mut place = 0;
     for slot in slots {
-        let end = place.checked_add(slot.count()).ok_or(AllocError)?;
+        let count = slot.count();
         slot.push_flagged(&mut points, place, flags)?;
-        place = end;
+        place += count;
     }
     Ok(points)
 }
@@ -68,16 +68,17 @@ pub(crate) fn flagged_points_of_live(
     requires live { AreLive live.now.watched.items live.now.places.items slots.now }
     requires watched { AreWatched live.now.watched.items flags.now }
     requires own { All HasOwnTouches slots.now }
+    requires few { All HasFewTouches slots.now }
     ensures value { IfOk result (λ points. points.items
         ≡ flagged_points flags.now (flat_map slot_touches slots.now)) }
     ensures no_memory { flat_map slot_touches slots.now ≡ [] → IsOk result }
 {
     let mut points = Vec::new(alloc);
-    let mut end = 0usize;
+    let mut end = 0;
     for live_place in &live.places {
         let slot = &slots[live_place.place];
-        let place = end.checked_add(live_place.skipped).ok_or(AllocError)?;
-        end = place.checked_add(slot.count()).ok_or(AllocError)?;
+        let place = end + live_place.skipped;
+        end = place + slot.count();
         slot.push_flagged(&mut points, place, flags)?;
     }
     Ok(points)

@@ -10,7 +10,7 @@ ghost use Rattle.pf_manifold.specs.Touches.{touch_of};
 ghost use Rattle.pf_cache.specs.KeyEdits.{AreEditsBetween};
 ghost use Rattle.pf_cache.specs.Live.{AreLive};
 ghost use Rattle.pf_cache.specs.Manifolds.{points_of_pair};
-ghost use Rattle.pf_cache.specs.Slots.{AreStale, IsFreshUnlessLive, is_of_pair, manifold_touches, refreshed_slot, slot_of, slot_touches};
+ghost use Rattle.pf_cache.specs.Slots.{AreStale, HasFewTouches, IsFreshUnlessLive, is_of_pair, manifold_touches, refreshed_slot, slot_of, slot_touches};
 ghost use Rattle.pf_cache.specs.Stale.{AreNextPoints};
 
 use crate::kept_shape::{KeptShape, manifold_of_pair};
@@ -57,25 +57,26 @@ pub(crate) fn stale_slots(
     requires live { AreLive live.now.watched.items live.now.places.items slots.now }
     requires others { All (IsFreshUnlessLive bounds.now unmoved.items live.now.watched.items)
         slots.now }
+    requires touches { All HasFewTouches slots.now }
     ensures unmoved { IfOk result (λ stale. stale.unmoved.items ≡ unmoved.items) }
     ensures stale { IfOk result (λ stale.
         AreStale bounds.now unmoved.items stale.places.items stale.pairs.items slots.now) }
 {
     let mut places = Vec::with_capacity(alloc, live.places.len())?;
     let mut pairs = Vec::with_capacity(alloc, live.places.len())?;
-    let mut skipped = 0usize;
+    let mut skipped = 0;
     for live_place in &live.places {
         let place = live_place.place;
         let slot = &slots[place];
         let pair = slot.pair();
         let overlap = pair_may_touch(bounds, pair);
-        skipped = skipped.checked_add(live_place.skipped).ok_or(AllocError)?;
+        skipped += live_place.skipped;
         if slot.is_stale(overlap, &unmoved) {
             push_if(overlap, &mut pairs, pair)?;
             places.push(SlotPlace { place, skipped })?;
             skipped = 0;
         } else {
-            skipped = skipped.checked_add(slot.count()).ok_or(AllocError)?;
+            skipped += slot.count();
         }
     }
     Ok(Stale {
@@ -179,6 +180,7 @@ pub(crate) fn refresh_slots(
     requires few { length shapes.now ≤ MAX_BODIES }
     requires bodies { length bounds.now ≡ length shapes.now }
     requires pairs { All (λ s. IsPairOf (length shapes.now) s.pair) slots.old }
+    requires touches { All HasFewTouches slots.old }
     requires ascending { IsAscending (map (λ s. s.pair) slots.old) }
     requires stale { AreStale bounds.now stale.now.unmoved.items stale.now.places.items
         stale.now.pairs.items slots.old }
@@ -191,14 +193,13 @@ pub(crate) fn refresh_slots(
         (map key_of (flat_map slot_touches slots.new))) }
 {
     let mut edits = KeyEdits::new(alloc);
-    let mut kept = 0usize;
+    let mut kept = 0;
     let mut start = 0;
     for place in &stale.places {
         let slot = &mut slots[place.place];
         let (points, end) = points_at(slot.pair(), collided, start, bounds, shapes);
         start = end;
-        kept = kept.checked_add(place.skipped).ok_or(AllocError)?;
-        kept = slot.replace(points, kept, &mut edits)?;
+        kept = slot.replace(points, kept + place.skipped, &mut edits)?;
     }
     Ok(edits)
 }

@@ -38,7 +38,7 @@ has_features a b = by a.shape refl b.shape refl
     by (Box hx hy) ea (Box kx ky) eb = λ k d w. let h = boxes_features a b hx hy kx ky ea eb k d w in omega (arith, h)
 
 -- the least rank that a point of the pair can have
-abbrev lowest : Pair → ℕ
+abbrev pub lowest : Pair → ℕ
 lowest p = p.a * 2 ^ 24 + p.b * 2 ^ 8
 
 points_rise : (p : Pair) (points : List ContactPoint) → AreAscending points
@@ -89,7 +89,7 @@ between_bodies n p None b is = All-nil (IsTouchOf n)
 -- ---- all pairs
 
 -- a pair that comes before another has lower ranks
-lower : (p q : Pair) → p.b < 2 ^ 16 → is_before p q ≡ true → lowest p + 2 ^ 8 ≤ lowest q
+pub lower : (p q : Pair) → p.b < 2 ^ 16 → is_before p q ≡ true → lowest p + 2 ^ 8 ≤ lowest q
 lower p q small e =
     ⊎_elim
     (λ x. let less = ltb-true p.a q.a x in omega (arith, less, small))
@@ -101,15 +101,15 @@ lower p q small e =
     (or_cases _ _ e)
 
 -- no pair has a point of a rank below this one
-abbrev AreFrom : ℕ → List Pair → Type 0
+abbrev pub AreFrom : ℕ → List Pair → Type 0
 AreFrom least pairs = AllByRecursion (λ p. least ≤ lowest p) pairs
 
-behind_from : (p : Pair) (pairs : List Pair) → p.b < 2 ^ 16 → AllByRecursion (λ q. is_before p q ≡ true) pairs
+pub behind_from : (p : Pair) (pairs : List Pair) → p.b < 2 ^ 16 → AllByRecursion (λ q. is_before p q ≡ true) pairs
     → AreFrom (lowest p + 2 ^ 8) pairs
 behind_from p [] small h = tt
 behind_from p (q ∷ pairs) small h = (lower p q small h.0, behind_from p pairs small h.1)
 
-from_zero : (pairs : List Pair) → AreFrom 0 pairs
+pub from_zero : (pairs : List Pair) → AreFrom 0 pairs
 from_zero [] = tt
 from_zero (p ∷ pairs) = (omega arith, from_zero pairs)
 

@@ -1,4 +1,4 @@
-use Rattle.std.proofs.Common.{◌≡◌, ◌∙◌, ◌<◌, ◌+◌, ◌^◌, ◌∷◌, ◌++◌, [], All, ap, arith, filter, get_or, length, refl, subst, sym, true≢false}
+use Rattle.std.proofs.Common.{◌≡◌, ◌∙◌, ◌+◌, ◌∷◌, ◌++◌, [], All, ap, arith, filter, get_or, length, refl, subst, sym, true≢false}
 use Rattle.std.specs.List.{enumerate_from, flat_map}
 use Rattle.pf_shapes.specs.Pair.{IsPairOf}
 use Rattle.pf_shapes.specs.declared.scene.TheConstants.{MAX_BODIES}
@@ -6,8 +6,9 @@ use Rattle.pf_manifold.specs.Touches.{IsTouchOf}
 use Rattle.pf_cache.specs.Live.{HasOwnTouches, is_live}
 use Rattle.pf_cache.specs.Points.{flagged_points}
 use Rattle.pf_cache.specs.Slots.{slot_touches}
-use Rattle.pf_cache.proofs.PlacedPoints.{All-back, All-front, none_of_all, of_all, some_is, some_where}
-use Rattle.pf_cache.proofs.SlotPlaces.{at_next, count_more, count_one, no_place, none_before, others_left, slot_next, started, walked_next, within_next}
+use Rattle.pf_cache.proofs.PlacedPoints.{All-back, All-front, none_of_all, of_all}
+use Rattle.pf_cache.proofs.FewTouches.{up_to}
+use Rattle.pf_cache.proofs.SlotPlaces.{at_next, count_more, count_one, no_place, others_left, slot_next, started, walked_next, within_next}
 use Rattle.pf_cache.proofs.Watching.{is_taken, more_points, same_points}
 use Rattle.pf_cache.proofs.slots.flagged_points_of_live.Goals as goal
 
@@ -39,43 +40,45 @@ bounds-slots-live_place c =
     let inside = within_next live places slots l.live_place-index walked _ at in
     inside
 
-pub returns-in_err-place-clause-no_memory : goal.returns-in_err-place-clause-no_memory
-returns-in_err-place-clause-no_memory c =
+pub overflow_add-place : goal.overflow_add-place
+overflow_add-place c =
     let live = is_live c.args.live.now.watched.items in
     let places = c.args.live.now.places.items in
     let slots = c.args.slots.now in
     let l = c.loop-live_place in
     let walked = l.invariant.0 in
     let at = at_next live places slots l.live_place-index walked c.deref-live_place-items.result.now no_place c.deref-live_place-items.ensures.value c.loop-live_place-test.true in
-    let inside = within_next live places slots l.live_place-index walked _ at in
-    λ none.
-    let end : l.end ≡ 0 = l.invariant.1.0 ∙ none_before slots walked.front walked.rest walked.whole none in
-    let all = none_before slots (walked.front ++ at.others) (at.slot ∷ at.behind) at.whole none in
-    let sum = count_more walked.front at.others _ _ refl refl in
-    let skipped_is = at.skipped_is in
-    let fits : l.end + (get_or c.deref-live_place-items.result.now l.live_place-index no_place).skipped < 2 ^ 64 =
-    omega (arith, end, all, sum, skipped_is) in
-    absurd (true≢false (sym (some_where c.checked_add.result _ _ c.checked_add.ensures fits) ∙ sym c.in_err-place.ensures.variant))
+    let sum = count_more walked.front at.others l.end _ l.invariant.1.0 at.skipped_is in
+    let room = up_to slots (walked.front ++ at.others) at.slot at.behind at.whole c.requires.few in
+    omega (arith, sum, room)
 
-pub returns-in_err-end-clause-no_memory : goal.returns-in_err-end-clause-no_memory
-returns-in_err-end-clause-no_memory c =
+pub overflow_add-end : goal.overflow_add-end
+overflow_add-end c =
     let live = is_live c.args.live.now.watched.items in
     let places = c.args.live.now.places.items in
     let slots = c.args.slots.now in
     let l = c.loop-live_place in
     let walked = l.invariant.0 in
     let at = at_next live places slots l.live_place-index walked c.deref-live_place-items.result.now no_place c.deref-live_place-items.ensures.value c.loop-live_place-test.true in
-    let inside = within_next live places slots l.live_place-index walked _ at in
-    let sum : c.in_ok-place.place ≡ l.end + (get_or c.deref-live_place-items.result.now l.live_place-index no_place).skipped =
-    some_is c.checked_add.result _ _ c.in_ok-place.place c.checked_add.ensures c.in_ok-place.ensures.ok_part in
-    let place_is : c.in_ok-place.place ≡ length (flat_map slot_touches (walked.front ++ at.others)) =
-    sum ∙ count_more walked.front at.others l.end _ l.invariant.1.0 at.skipped_is in
-    λ none.
-    let all = none_before slots (walked.front ++ at.others) (at.slot ∷ at.behind) at.whole none in
-    let count : c.count.result ≡ 0 =
-    c.count.ensures ∙ ap (λ x. length (slot_touches x)) c.index-slots-live_place.is ∙ ap length (none_of_all slots _ c.index-slots-live_place.result inside none) in
-    let fits : c.in_ok-place.place + c.count.result < 2 ^ 64 = omega (arith, place_is, all, count) in
-    absurd (true≢false (sym (some_where c.checked_add-in-loop-live_place.result _ _ c.checked_add-in-loop-live_place.ensures fits) ∙ sym c.in_err-end.ensures.variant))
+    let sum = count_more walked.front at.others l.end _ l.invariant.1.0 at.skipped_is in
+    let room = up_to slots (walked.front ++ at.others) at.slot at.behind at.whole c.requires.few in
+    let slot_is = c.index-slots-live_place.is ∙ slot_next live places slots l.live_place-index walked _ at c.index-slots-live_place.result in
+    let count = c.count.ensures.count ∙ ap (λ x. length (slot_touches x)) slot_is in
+    omega (arith, sum, room, count)
+
+pub push_flagged-requires-clause-number : goal.push_flagged-requires-clause-number
+push_flagged-requires-clause-number c =
+    let live = is_live c.args.live.now.watched.items in
+    let places = c.args.live.now.places.items in
+    let slots = c.args.slots.now in
+    let l = c.loop-live_place in
+    let walked = l.invariant.0 in
+    let at = at_next live places slots l.live_place-index walked c.deref-live_place-items.result.now no_place c.deref-live_place-items.ensures.value c.loop-live_place-test.true in
+    let sum = count_more walked.front at.others l.end _ l.invariant.1.0 at.skipped_is in
+    let room = up_to slots (walked.front ++ at.others) at.slot at.behind at.whole c.requires.few in
+    let slot_is = c.index-slots-live_place.is ∙ slot_next live places slots l.live_place-index walked _ at c.index-slots-live_place.result in
+    let count = ap (λ x. length (slot_touches x)) slot_is in
+    omega (arith, sum, room, count)
 
 pub push_flagged-requires-clause-pair : goal.push_flagged-requires-clause-pair
 push_flagged-requires-clause-pair c =
@@ -124,25 +127,22 @@ loop-live_place-preserved c =
     let inside = within_next live places slots l.live_place-index walked _ at in
     let s = c.index-slots-live_place.result in
     let slot_is : s ≡ at.slot = c.index-slots-live_place.is ∙ slot_next live places slots l.live_place-index walked _ at s in
-    let sum : c.in_ok-place.place ≡ l.end + (get_or c.deref-live_place-items.result.now l.live_place-index no_place).skipped =
-    some_is c.checked_add.result _ _ c.in_ok-place.place c.checked_add.ensures c.in_ok-place.ensures.ok_part in
-    let place_is : c.in_ok-place.place ≡ length (flat_map slot_touches (walked.front ++ at.others)) =
-    sum ∙ count_more walked.front at.others l.end _ l.invariant.1.0 at.skipped_is in
+    let place = l.end + (get_or c.deref-live_place-items.result.now l.live_place-index no_place).skipped in
+    let place_is : place ≡ length (flat_map slot_touches (walked.front ++ at.others)) =
+    count_more walked.front at.others l.end _ l.invariant.1.0 at.skipped_is in
     let flags = c.args.flags.now in
     let watched = c.args.live.now.watched.items in
     let before = walked.front ++ at.others in
     let own = All-back HasOwnTouches walked.front at.others
     (All-front HasOwnTouches before (at.slot ∷ at.behind) (subst (All HasOwnTouches) at.whole c.requires.own)) in
-    let more : c.in_ok-end.end ≡ c.in_ok-place.place + length (slot_touches s) =
-    some_is c.checked_add-in-loop-live_place.result _ _ c.in_ok-end.end c.checked_add-in-loop-live_place.ensures c.in_ok-end.ensures.ok_part
-    ∙ ap (λ k. c.in_ok-place.place + k) c.count.ensures in (
+    let more = ap (λ n. place + n) c.count.ensures.count in (
       walked_next live places slots l.live_place-index walked _ at,
       (
-        more ∙ count_more before (at.slot ∷ []) c.in_ok-place.place (length (slot_touches s)) place_is (ap (λ x. length (slot_touches x)) slot_is ∙ count_one at.slot),
+        more ∙ count_more before (at.slot ∷ []) place (length (slot_touches s)) place_is (ap (λ x. length (slot_touches x)) slot_is ∙ count_one at.slot),
         c.in_ok-push_flagged.ensures.added
             ∙ (λ k. (l.invariant.1.1 ∙ sym (same_points flags watched c.requires.watched walked.front at.others own at.fail)) k
-            ++ filter (is_taken flags) (enumerate_from c.in_ok-place.place (slot_touches (slot_is k))))
-            ∙ sym (more_points flags before at.slot c.in_ok-place.place place_is),
+            ++ filter (is_taken flags) (enumerate_from place (slot_touches (slot_is k))))
+            ∙ sym (more_points flags before at.slot place place_is),
       ),
     )
 

@@ -1,4 +1,5 @@
-use Rattle.std.proofs.Common.{◌≡◌, ◌∙◌, ◌+◌, ◌++◌, [], Option, ap, arith, get_or, length, map, refl, subst, sym}
+use Rattle.std.proofs.Common.{◌≡◌, ◌∙◌, ◌+◌, ◌++◌, [], Option, ap, arith, length, map, refl, subst, sym}
+use Rattle.std.proofs.lemmas.List.{length-map}
 use Rattle.std.specs.List.{flat_map}
 use Rattle.std.specs.Prelude.{IfSome}
 use Rattle.pf_shapes.specs.Pair.{IsPairOf}
@@ -10,12 +11,12 @@ use Rattle.pf_cache.specs.KeyEdits.{AreEditsUpTo}
 use Rattle.pf_cache.specs.Slots.{Slot, pairs_to_compute, is_stale, manifold_touches, refreshed_slot, slot_of, slot_touches}
 use Rattle.pf_cache.specs.Stale.{AreNextPoints}
 use Rattle.pf_cache.proofs.EditsMade.{no_edits_so_far}
+use Rattle.pf_cache.proofs.FewTouches.{up_to}
 use Rattle.pf_cache.proofs.Filling.{Follow, Next, both_if_some, first_points_are, if_some}
 use Rattle.pf_cache.proofs.RefreshSteps.{ascend_here, edits_in_the_end, edits_now, pair_here, pairs_here, slot_now, slots_now}
 use Rattle.pf_cache.specs.Manifolds.{points_of_pair}
-use Rattle.pf_cache.proofs.PlacedPoints.{some_is}
 use Rattle.pf_cache.proofs.Refreshing.{refreshed_stale, refreshed_stays, slots_left}
-use Rattle.pf_cache.proofs.SlotPlaces.{at_next, no_place, others_left, started, walked_next, within_next}
+use Rattle.pf_cache.proofs.SlotPlaces.{at_next, count_more, no_place, others_left, started, walked_next, within_next}
 use Rattle.pf_cache.proofs.stale.refresh_slots.Goals as goal
 
 -- a slot with these contact points
@@ -92,8 +93,8 @@ points_at-points-requires-clause-next c =
     ))
     l.invariant.1.next)
 
-pub replace-requires : goal.replace-requires
-replace-requires c =
+pub replace-requires-clause-pair : goal.replace-requires-clause-pair
+replace-requires-clause-pair c =
     let bounds = c.args.bounds.now in
     let unmoved = c.args.stale.now.unmoved.items in
     let shapes = c.args.shapes.now in
@@ -107,6 +108,42 @@ replace-requires c =
     (let here = pair_here bounds unmoved shapes places old l.place-index walked _ at (length shapes) c.requires.pairs in
     let few = c.requires.few in
     (here.0, omega (arith, here.1, few)))
+
+pub overflow_add-kept : goal.overflow_add-kept
+overflow_add-kept c =
+    let bounds = c.args.bounds.now in
+    let unmoved = c.args.stale.now.unmoved.items in
+    let shapes = c.args.shapes.now in
+    let places = c.args.stale.now.places.items in
+    let old = c.args.slots.now in
+    let l = c.loop-place in
+    let walked = l.invariant.0 in
+    let at = at_next (is_stale bounds unmoved) places old l.place-index walked c.deref-place-items.result.now no_place c.deref-place-items.ensures.value c.loop-place-test.true in
+    let kept_is = l.invariant.1.edits.1 in
+    let keys = length-map (flat_map slot_touches walked.front) key_of in
+    let skipped_is = at.skipped_is in
+    let sum = count_more walked.front at.others _ _ refl refl in
+    let room = up_to old (walked.front ++ at.others) at.slot at.behind at.whole c.requires.touches in
+    omega (arith, kept_is, keys, skipped_is, sum, room)
+
+pub replace-requires-clause-room : goal.replace-requires-clause-room
+replace-requires-clause-room c =
+    let bounds = c.args.bounds.now in
+    let unmoved = c.args.stale.now.unmoved.items in
+    let shapes = c.args.shapes.now in
+    let places = c.args.stale.now.places.items in
+    let old = c.args.slots.now in
+    let l = c.loop-place in
+    let walked = l.invariant.0 in
+    let at = at_next (is_stale bounds unmoved) places old l.place-index walked c.deref-place-items.result.now no_place c.deref-place-items.ensures.value c.loop-place-test.true in
+    let slot_is = slot_now bounds unmoved shapes places old l.place-index walked _ at l.slots l.invariant.1.slots c.index-slots-place.result in
+    let kept_is = l.invariant.1.edits.1 in
+    let keys = length-map (flat_map slot_touches walked.front) key_of in
+    let skipped_is = at.skipped_is in
+    let sum = count_more walked.front at.others _ _ refl refl in
+    let room = up_to old (walked.front ++ at.others) at.slot at.behind at.whole c.requires.touches in
+    let count = ap (λ (s : Slot). length (slot_touches s)) slot_is in
+    omega (arith, kept_is, keys, skipped_is, sum, room, count)
 
 pub loop-place-preserved : goal.loop-place-preserved
 loop-place-preserved c =
@@ -125,10 +162,8 @@ loop-place-preserved c =
     let points = c.points_at-points.result.0 in
     let touches_are = subst (λ p. manifold_touches p points ≡ (slot_of bounds shapes p).touches) pair_is c.points_at-points.ensures.points in
     let new_is : c.replace.new.self ≡ refreshed_slot bounds unmoved shapes at.slot =
-    c.in_ok-kept-2.ensures.slot ∙ ap (with_points points) slot_is
-    ∙ (λ k. record { pair = at.slot.pair; touches = touches_are k }) ∙ sym (refreshed_stale bounds unmoved shapes at.slot at.passes) in
-    let kept_is : c.in_ok-kept.kept ≡ l.kept + (get_or c.deref-place-items.result.now l.place-index no_place).skipped =
-    some_is c.checked_add.result _ _ c.in_ok-kept.kept c.checked_add.ensures c.in_ok-kept.ensures.ok_part in (
+    c.in_ok-kept.ensures.slot ∙ ap (with_points points) slot_is
+    ∙ (λ k. record { pair = at.slot.pair; touches = touches_are k }) ∙ sym (refreshed_stale bounds unmoved shapes at.slot at.passes) in (
       walked_next (is_stale bounds unmoved) places old l.place-index walked _ at,
       record {
         slots = slots_now bounds unmoved shapes places old l.place-index walked _ at l.slots l.invariant.1.slots c.replace.new.self new_is;
@@ -137,11 +172,11 @@ loop-place-preserved c =
             subst (λ p. Follow shapes touches.items l.start c.points_at-points.result.1 p (pair_may_touch bounds p)) pair_is follow later up
             (subst (AreNextPoints shapes touches.items l.start) (pairs_here bounds unmoved shapes places old l.place-index walked _ at) are))
             c.points_at-points.ensures.next l.invariant.1.next;
-        edits = edits_now bounds unmoved shapes places old l.place-index walked _ at l.edits c.replace.new.edits l.kept c.in_ok-kept-2.kept c.replace.new.self
+        edits = edits_now bounds unmoved shapes places old l.place-index walked _ at l.edits c.replace.new.edits l.kept c.in_ok-kept.kept c.replace.new.self
             l.invariant.1.edits new_is
             (λ before after are.
-            subst (λ s. AreEditsUpTo c.replace.new.edits c.in_ok-kept-2.kept (before ++ map key_of (slot_touches s)) (after ++ map key_of (slot_touches c.replace.new.self))) slot_is
-            (c.in_ok-kept-2.ensures.edits before after (subst (λ n. AreEditsUpTo l.edits n before after) (sym kept_is) are)));
+            subst (λ s. AreEditsUpTo c.replace.new.edits c.in_ok-kept.kept (before ++ map key_of (slot_touches s)) (after ++ map key_of (slot_touches c.replace.new.self))) slot_is
+            (c.in_ok-kept.ensures.edits before after are));
       },
     )
 

@@ -5,8 +5,8 @@ use Rattle.pf_shapes.specs.declared.scene.TheConstants.{MAX_BODIES}
 use Rattle.pf_manifold.specs.Touches.{IsTouchOf}
 use Rattle.pf_cache.specs.Live.{AreLive, AreWatched, HasOwnTouches}
 use Rattle.pf_cache.specs.Manifolds.{kept_touches}
-use Rattle.pf_cache.specs.Slots.{Slot, slot_touches}
-use Rattle.pf_cache.proofs.SlotsKept.{kept_bodies, kept_points, kept_touches_are_own}
+use Rattle.pf_cache.specs.Slots.{HasFewTouches, Slot, slot_touches}
+use Rattle.pf_cache.proofs.SlotsKept.{kept_bodies, kept_points, kept_touches_are_few, kept_touches_are_own}
 use Rattle.pf_cache.proofs.manifolds.Manifolds.points_of.Goals as goal
 
 pub flagged_points_of_live-requires-clause-pairs : goal.flagged_points_of_live-requires-clause-pairs
@@ -48,6 +48,11 @@ pub flagged_points_of_live-requires-clause-own : goal.flagged_points_of_live-req
 flagged_points_of_live-requires-clause-own c =
     subst (All HasOwnTouches) (sym c.as_slice-slots.ensures.value)
     (kept_touches_are_own c.self.inside.broad_phase c.self.inside.placed.bounds c.self.inside.placed.shapes c.self.inside.slots.items c.self.invariant.0)
+
+pub flagged_points_of_live-requires-clause-few : goal.flagged_points_of_live-requires-clause-few
+flagged_points_of_live-requires-clause-few c =
+    subst (All HasFewTouches) (sym c.as_slice-slots.ensures.value)
+    (kept_touches_are_few c.self.inside.broad_phase c.self.inside.placed.bounds c.self.inside.placed.shapes c.self.inside.slots.items c.self.invariant.0)
 
 pub returns-then-are_watched-clause-points : goal.returns-then-are_watched-clause-points
 returns-then-are_watched-clause-points c =

@@ -13,9 +13,10 @@ use Rattle.pf_cache.specs.KeyEdits.{AreEditsBetween, KeyEdits, no_edits}
 use Rattle.pf_cache.specs.Live.{AreLive}
 use Rattle.pf_cache.specs.Manifolds.{computed_count, kept_touches, placed_shapes, points_of_pair}
 use Rattle.pf_cache.specs.PlacedBodies.{HaveStayed, PlacedBodies, bodies_of}
-use Rattle.pf_cache.specs.Slots.{AreSlots, IsFreshUnlessLive, HasSoundPoints, Slot, carried_slot, needs_points, overlapping, slot_of, slot_touches, unmoved_flags}
+use Rattle.pf_cache.specs.Slots.{HasFewTouches, AreSlots, IsFreshUnlessLive, HasSoundPoints, Slot, carried_slot, needs_points, overlapping, slot_of, slot_touches, unmoved_flags}
 use Rattle.pf_cache.proofs.Bounded.{as_many_bounds}
-use Rattle.pf_cache.proofs.SlotsKept.{carried_pairs, counted_stale, kept_bodies, kept_own, kept_pairs, kept_points, kept_rise, now_kept, reused, stayed, all_stay, none_listed, none_stale}
+use Rattle.pf_cache.proofs.FewTouches.{few_carried}
+use Rattle.pf_cache.proofs.SlotsKept.{kept_touches_are_few, carried_pairs, counted_stale, kept_bodies, kept_own, kept_pairs, kept_points, kept_rise, now_kept, reused, stayed, all_stay, none_listed, none_stale}
 use Rattle.pf_cache.proofs.Standing.{same_at}
 use Rattle.pf_cache.proofs.manifolds.Manifolds.update.Goals.{then-has_all, else-has_all}
 use Rattle.pf_cache.proofs.EditsMade.{no_edits_between}
@@ -199,6 +200,15 @@ update_slots-requires-clause-kept g c =
     (All-map Reused (carried_slot kept) candidates (λ k e below.
     reused c.self-2.inside.broad_phase old.bounds old.shapes kept c.self-2.invariant.0 (get_or candidates k e) (in_range k e below) placed.shapes
     c.in_ok-placed.unmoved.items flags_are))
+
+pub update_slots-requires-clause-touches : goal.update_slots-requires-clause-touches
+update_slots-requires-clause-touches g c =
+    let old = c.self-2.inside.placed in
+    let kept = c.self-2.inside.slots.items in
+    let candidates = c.candidates.result.now in
+    let few = kept_touches_are_few c.self-2.inside.broad_phase old.bounds old.shapes kept c.self-2.invariant.0 in
+    subst (All HasFewTouches) (sym (c.deref_mut.ensures.value ∙ c.in_ok-carried.ensures.slots))
+    (All-map HasFewTouches (carried_slot kept) candidates (λ k e below. few_carried kept (get_or candidates k e) few))
 
 pub invariant_of-manifolds : goal.invariant_of-manifolds
 invariant_of-manifolds g c =
