@@ -18,6 +18,7 @@ use Rattle.pf_bundles.specs.Seats.{SeatState}
 use Rattle.pf_batches.specs.Limits.{AreGrown}
 use Rattle.pf_batches.specs.Numbers.{AreAllWithin, lane_result, seat_state_from}
 use Rattle.pf_bundles.specs.Seats.{AreAsMany, IsSeatIn, numbers_with, numbers_with_all, seat_state_or, velocity_at, with_velocity}
+use Rattle.pf_batches.proofs.Numbers.{with_velocity_length}
 
 -- what a step makes of a contact in a lane is what it makes of the numbers of its row
 pub result_in : (step : Step) (p : PreparedLanes) (k : Lane) (before after : ContactLanes) (s : SeatState)
@@ -85,17 +86,12 @@ all_grown_within limit by p n seats before (Some after) all read grown = λ k.
 
 -- ---- rows that are stored one after the other
 
--- the velocities stay as many
-velocities_stay : (velocities : List Velocity) (side : Side) (v : Velocity) → length (with_velocity velocities side v) ≡ length velocities
-velocities_stay velocities Static v = refl
-velocities_stay velocities (Dynamic place) v = length-set velocities place v
-
 -- so do all numbers where a row is stored
 pub many_stay : (seat : Seat) (s : SeatState) (n : Numbers) → AreAsMany n (numbers_with seat s n)
 many_stay seat s n = record {
   velocities =
-      velocities_stay (with_velocity n.velocities seat.first s.first) seat.second s.second
-      ∙ velocities_stay n.velocities seat.first s.first;
+      with_velocity_length (with_velocity n.velocities seat.first s.first) seat.second s.second
+      ∙ with_velocity_length n.velocities seat.first s.first;
   impulses = length-set n.impulses seat.place s.impulses;
 }
 
@@ -201,8 +197,3 @@ states_within limit after each =
     (All-cons (IsSeatWithin limit) second (third ∷ fourth ∷ []) (each Second)
     (All-cons (IsSeatWithin limit) third (fourth ∷ []) (each Third)
     (All-cons (IsSeatWithin limit) fourth [] (each Fourth) (All-nil (IsSeatWithin limit)))))
-
--- what follows from what holds of a value, if there is one
-pub some_weaker : {A : Type 0} {P Q : A → Type 0} (o : Option A) → ((a : A) → P a → Q a) → IfSome o P → IfSome o Q
-some_weaker None more h = tt
-some_weaker (Some a) more h = more a h

@@ -151,7 +151,7 @@ module _ (velocities : List Velocity) (bodies : List BodyState) (same : length v
   motion_stored (Dynamic p) m = velocity_stored velocities bodies p m same
 
 -- the velocities stay as many
-with_velocity_length : (velocities : List Velocity) (side : Side) (v : Velocity)
+pub with_velocity_length : (velocities : List Velocity) (side : Side) (v : Velocity)
     → length (with_velocity velocities side v) ≡ length velocities
 with_velocity_length velocities Static v = refl
 with_velocity_length velocities (Dynamic p) v = length-set velocities p v

@@ -10,6 +10,7 @@ use Rattle.pf_broad.specs.declared.cell.Cell.{Cell}
 use Rattle.pf_broad.specs.Cell.{is_between}
 use Rattle.pf_broad.specs.Stored.{Cells, cell_eq, stored_in, with_listed_body}
 use Rattle.pf_broad.proofs.Intervals.{passed, passed-start, passed-more, passed-apart, passed-end}
+use Rattle.pf_broad.proofs.Partnering.{and-false, and-true}
 
 pub equal_cells : (a b : Cell) → cell_eq a b ≡ true → a ≡ b
 equal_cells a b same =
@@ -29,14 +30,6 @@ listed old new cell bodies body updates more c =
       | true ↦ λ same. ap Some (more ∙ ap (λ q. unwrap_or (stored_in old q) [] ++ body ∷ []) (equal_cells cell c same))
       | false ↦ λ _. refl
     ] refl
-
-and-true : (b : Bool) → (b && true) ≡ b
-and-true true = refl
-and-true false = refl
-
-and-false : (b : Bool) → (b && false) ≡ false
-and-false true = refl
-and-false false = refl
 
 -- a body is added where one of two tests holds, which never both hold
 with_either : (p e q : Bool) (k : ℕ) (o : Option (List ℕ)) → q ≡ (p || e) → (p && e) ≡ false → with_listed_body e k (with_listed_body p k o) ≡ with_listed_body q k o

@@ -66,11 +66,11 @@ is_found_below bs x low next j =
     let s = cells_of (bounds_at bs j) in
     nat_lt j (length bs) && (not (is_wide (bounds_at bs j)) && (is_between s.left s.right x && crossed low next s.bottom s.top))
 
-and-false : (b : Bool) → (b && false) ≡ false
+pub and-false : (b : Bool) → (b && false) ≡ false
 and-false true = refl
 and-false false = refl
 
-and-true : (b : Bool) → (b && true) ≡ b
+pub and-true : (b : Bool) → (b && true) ≡ b
 and-true true = refl
 and-true false = refl
 

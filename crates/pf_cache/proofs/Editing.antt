@@ -14,6 +14,7 @@ use Rattle.pf_cache.specs.declared.key_edits.KeyEdit.{KeyEdit}
 use Rattle.pf_cache.specs.Contact.{AreContacts, AreKeys, Contact, contact_of_key, contacts_of_keys, impulses_at}
 use Rattle.pf_cache.specs.KeyEdits.{keys_after, spanned_count}
 use Rattle.pf_cache.proofs.Places.{found_here, other_rank}
+use Rattle.pf_cache.proofs.PlacedPoints.{All-front, All-back}
 
 abbrev rank_of : Contact → ℕ
 rank_of c = rank c.key
@@ -23,15 +24,7 @@ keys_of contacts = map (λ (c : Contact). c.key) contacts
 
 -- ---- parts of a list
 
-pub all_front : {X : Type 0} (P : X → Type 0) (xs ys : List X) → All P (xs ++ ys) → All P xs
-all_front P [] ys each = All-nil P
-all_front P (x ∷ xs) ys each = All-cons P x xs (All-head P x (xs ++ ys) each) (all_front P xs ys (All-tail P x (xs ++ ys) each))
-
-pub all_back : {X : Type 0} (P : X → Type 0) (xs ys : List X) → All P (xs ++ ys) → All P ys
-all_back P [] ys each = each
-all_back P (x ∷ xs) ys each = all_back P xs ys (All-tail P x (xs ++ ys) each)
-
-all_unmap : {X Y : Type 0} (P : Y → Type 0) (f : X → Y) (xs : List X) → All P (map f xs) → All (λ x. P (f x)) xs
+pub all_unmap : {X Y : Type 0} (P : Y → Type 0) (f : X → Y) (xs : List X) → All P (map f xs) → All (λ x. P (f x)) xs
 all_unmap P f [] each = All-nil (λ x. P (f x))
 all_unmap P f (x ∷ xs) each =
     All-cons (λ y. P (f y)) x xs (All-head P (f x) (map f xs) each) (all_unmap P f xs (All-tail P (f x) (map f xs) each))
@@ -50,26 +43,26 @@ module _ {X : Type 0} (f : X → ℕ) where
   rising_parts least [] ys h = All-nil (λ x. All (λ y. f x < f y) ys)
   rising_parts least (x ∷ xs) ys h =
       All-cons (λ z. All (λ y. f z < f y) ys) x xs
-      (λ k e w. let high = all_back (λ y. suc (f x) ≤ f y) xs ys (rising-all f (suc (f x)) (xs ++ ys) h.1) k e w in omega (arith, high))
+      (λ k e w. let high = All-back (λ y. suc (f x) ≤ f y) xs ys (rising-all f (suc (f x)) (xs ++ ys) h.1) k e w in omega (arith, high))
       (rising_parts (suc (f x)) xs ys h.1)
 
 pub front_are_keys : (keys others : List Key) → AreKeys (keys ++ others) → AreKeys keys
 front_are_keys keys others order = record {
   rising = rising_front rank 0 keys others order.rising;
-  each = all_front IsKey keys others order.each;
+  each = All-front IsKey keys others order.each;
 }
 
 pub back_are_keys : (keys others : List Key) → AreKeys (keys ++ others) → AreKeys others
 back_are_keys keys others order = record {
   rising = rising_back rank keys others order.rising;
-  each = all_back IsKey keys others order.each;
+  each = All-back IsKey keys others order.each;
 }
 
 pub front_are_contacts : (k : ℕ) (contacts : List Contact) → AreContacts contacts → AreContacts (take k contacts)
 front_are_contacts k contacts order =
     let parts = sym (take-append-drop k contacts) in record {
       rising = rising_front rank_of 0 (take k contacts) (drop k contacts) (subst (λ cs. IsRising 0 (map rank_of cs)) parts order.rising);
-      keys = all_front (λ c. IsKey c.key) (take k contacts) (drop k contacts) (subst (All (λ c. IsKey c.key)) parts order.keys);
+      keys = All-front (λ c. IsKey c.key) (take k contacts) (drop k contacts) (subst (All (λ c. IsKey c.key)) parts order.keys);
     }
 
 -- ---- impulses in a part of the contacts
@@ -162,8 +155,8 @@ module _ (front kept back : List Contact) (c : Contact) (added others : List Key
   kept_made : map (contact_of_key whole) (keys_of (c ∷ kept)) ≡ c ∷ kept
   kept_made =
       stay whole (c ∷ kept)
-      (all_front (λ x. impulses_at (rank x.key) whole ≡ x.impulses) (c ∷ kept) back
-      (all_back (λ x. impulses_at (rank x.key) whole ≡ x.impulses) front ((c ∷ kept) ++ back) (found 0 whole rises)))
+      (All-front (λ x. impulses_at (rank x.key) whole ≡ x.impulses) (c ∷ kept) back
+      (All-back (λ x. impulses_at (rank x.key) whole ≡ x.impulses) front ((c ∷ kept) ++ back) (found 0 whole rises)))
 
   -- later keys are found among the last contacts
   others_made : map (contact_of_key whole) others ≡ map (contact_of_key back) others

@@ -9,21 +9,14 @@ use Rattle.pf_shapes.specs.Bounds.{Bounds}
 use Rattle.pf_shapes.specs.Pair.{Pair}
 use Rattle.pf_broad.specs.Pairs.{pair_may_touch}
 use Rattle.pf_manifold.specs.Collide.{collide}
-use Rattle.pf_manifold.specs.ContactPoint.{ContactPoint}
 use Rattle.pf_manifold.specs.PlacedShape.{PlacedShape}
 use Rattle.pf_manifold.specs.Touches.{touch_of, touches_between}
-use Rattle.pf_manifold.proofs.Features.{AreAscending, bodies_ascend}
+use Rattle.pf_manifold.proofs.Features.{bodies_ascend, few_points}
 use Rattle.pf_cache.specs.Manifolds.{points_of_pair}
 use Rattle.pf_cache.specs.Ranked.{element_at}
 use Rattle.pf_cache.specs.Slots.{HasFewTouches, Slot, carried_slot, pair_rank, slot_of, slot_touches, touches_if}
 
 -- ---- one slot
-
-few_points : (points : List ContactPoint) → AreAscending points → length points ≤ 2
-few_points [] up = omega arith
-few_points (x ∷ []) up = omega arith
-few_points (x ∷ (y ∷ [])) up = omega arith
-few_points (x ∷ (y ∷ (z ∷ points))) up = absurd up
 
 few_between : (p : Pair) (o m : Option PlacedShape) → length (touches_between p o m) ≤ 2
 few_between p (Some a) (Some b) =

@@ -136,7 +136,7 @@ module _ (contacts : List Contact) (order : AreContacts contacts) where
 
 -- ---- impulses that change at noted contacts
 
-or_right : (a b : Bool) → b ≡ true → (a || b) ≡ true
+pub or_right : (a b : Bool) → b ≡ true → (a || b) ≡ true
 or_right true b is = refl
 or_right false b is = is
 

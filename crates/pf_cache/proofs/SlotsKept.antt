@@ -37,10 +37,7 @@ use Rattle.pf_cache.proofs.Standing.{same_at}
 use Rattle.pf_cache.proofs.Unmoved.{flag_at, flag_stays, unmoved_points}
 use Rattle.pf_cache.proofs.Unmoved as unmoved_bodies
 use Rattle.pf_cache.proofs.Updating.{map-again, map_same}
-
-and_false : (b : Bool) → (b && false) ≡ false
-and_false true = refl
-and_false false = refl
+use Rattle.pf_broad.proofs.Partnering.{and-false}
 
 module _ (bounds : List Bounds) (shapes : List PlacedShape) where
   -- ---- what slots hold
@@ -117,7 +114,7 @@ module _ (bounds : List Bounds) (shapes : List PlacedShape) where
           rw (t, passes) refl
       by true false t m rest =
           let fails : pair_may_touch bounds p ≡ false = ap (pair_may_touch bounds) (sym ((Decides-pair q p).0 t)) ∙ m in
-          rest ∙ ap (λ b. lists_pair ps p && b) fails ∙ and_false (lists_pair ps p) ∙ sym fails
+          rest ∙ ap (λ b. lists_pair ps p && b) fails ∙ and-false (lists_pair ps p) ∙ sym fails
       by false true t m rest = rw t rest
       by false false t m rest = rest
 

@@ -16,6 +16,7 @@ pub mod Stored
 pub mod Spans
 pub mod Ticks
 pub mod Since
+pub mod Lookups
 pub mod News
 -- Checks.
 pub mod Checks

@@ -16,7 +16,7 @@ Absorbs w k = merge w k ≡ w
 abbrev single : Command → CommandMap
 single c = singleton c.name c.payload
 
-put_all-keeps : (m : CommandMap) (cs : List Command) → Absorbs (put_all m cs) m
+pub put_all-keeps : (m : CommandMap) (cs : List Command) → Absorbs (put_all m cs) m
 put_all-keeps m [] = merge_same m
 put_all-keeps m (c ∷ cs) =
     let n = merge m (single c) in

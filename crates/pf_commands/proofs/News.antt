@@ -5,7 +5,7 @@ use Rattle.std.proofs.lemmas.Bool.{cases_lt}
 use Rattle.std.proofs.lemmas.List.Elements.{All-nil, All-cons, All-contains, All-weaker, Contains-append_left, Contains-append_right}
 use Rattle.pf_commands.specs.News.{lesser_number, least_of, IsLeast}
 
-first_of : (n : ℕ) (ns : List ℕ) → Contains (n ∷ ns) n
+pub first_of : (n : ℕ) (ns : List ℕ) → Contains (n ∷ ns) n
 first_of n ns = Contains-append_left (n ∷ []) ns n (0, omega arith, refl)
 
 -- one number more

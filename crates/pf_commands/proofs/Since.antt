@@ -89,7 +89,7 @@ payloads_at-from tick m at late =
 
 -- ---- maps without commands before a tick
 
-both_hold : (a b : Bool) → T (a && b) → T a × T b
+pub both_hold : (a b : Bool) → T (a && b) → T a × T b
 both_hold true b hold = (tt, hold)
 both_hold false b hold = absurd hold
 

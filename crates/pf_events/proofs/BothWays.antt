@@ -1,11 +1,7 @@
 -- Two peers that merge each other's commands.
-use Rattle.std.proofs.Common.{◌≡◌, ◌≢◌, ℕ, ◌<◌, ◌==◌, T, Bool, true, false, cond, List, [], ◌∷◌, length, Some, None, Ok, refl, ap, sym, ◌∙◌, subst, arith}
-use Rattle.std.specs.declared.cmp.Ordering.{Ordering}
-use Rattle.std.specs.declared.cmp.Ordering.TheVariants.{Less, Equal, Greater}
-use Rattle.std.specs.Ordering.{eq_by_cmp, is_eq, is_lt}
-use Rattle.std.specs.Cmp.{eq_by_cmp_equiv}
+use Rattle.std.proofs.Common.{◌≡◌, ◌≢◌, ℕ, ◌<◌, ◌==◌, T, Bool, true, false, List, [], ◌∷◌, length, Some, Ok, refl, ap, sym, ◌∙◌, subst, arith}
 use Rattle.std.specs.FinMap.{entries, entries_sorted, find, get-entries}
-use Rattle.std.specs.FinMap.Entries.{below_all, is_sorted}
+use Rattle.std.specs.FinMap.Entries.{is_sorted}
 use Rattle.std.proofs.lemmas.Bool.Decides.{nat_tests}
 use Rattle.pf_shapes.specs.Scene.{Scene}
 use Rattle.pf_commands.specs.Name.{Name}
@@ -14,8 +10,7 @@ use Rattle.pf_commands.specs.Ticks.{IsFrom, is_from}
 use Rattle.pf_commands.proofs.Since.{IsFrom-is_from}
 use Rattle.pf_commands.specs.Merge.{name_cmp, CommandMap, merge}
 use Rattle.pf_commands.specs.declared.payload.Payload.{Payload}
-use Rattle.pf_commands.proofs.Merging.{merge_assoc, merge_same, same_name}
-use Rattle.pf_commands.proofs.Names.{name_cmp_total}
+use Rattle.pf_commands.proofs.Merging.{merge_assoc, merge_same}
 use Rattle.pf_commands.proofs.Ranges.{AreCommands-merge, merge_comm}
 use Rattle.pf_rollback.specs.Core.{AreAllowed}
 use Rattle.pf_step.specs.World.{same_world}
@@ -26,33 +21,12 @@ use Rattle.pf_events.specs.declared.event.Event.TheVariants.{Merge}
 use Rattle.pf_events.specs.Laws.{IsAllowedPeer}
 use Rattle.pf_events.specs.Session.{Session, peer_answer, peer_in, session_after}
 use Rattle.pf_events.proofs.Calls.{asked_peer, other_peer}
-use Rattle.pf_events.proofs.Horizons.{IsFrom-merge}
 use Rattle.pf_events.proofs.Maps.{first, second}
 use Rattle.pf_events.proofs.Sessions.{length-session_after}
+use Rattle.pf_rollback.proofs.Late.{from_merge}
+use Rattle.pf_commands.proofs.Lookups.{found_behind, found_first}
 
 -- ---- the entries of a map that the scene allows
-
-differs : (o : Ordering) → T (is_lt o) → is_eq o ≡ false
-differs Less h = refl
-differs Equal h = absurd h
-differs Greater h = absurd h
-
-not_above : (name : Name) (es : List (Name × Payload)) → T (below_all name_cmp name es) → find name_cmp name es ≡ None
-not_above name [] h = refl
-not_above name (e ∷ es) h = rw (differs (name_cmp name e.0) (first (is_lt (name_cmp name e.0)) (below_all name_cmp name es) h)) (not_above name es (second _ _ h))
-
--- what is found behind the first entry is found with it
-found_behind : (e : Name × Payload) (es : List (Name × Payload)) (name : Name) (payload : Payload) → T (below_all name_cmp e.0 es)
-    → find name_cmp name es ≡ Some payload → find name_cmp name (e ∷ es) ≡ Some payload
-found_behind e es name payload below found = by (eq_by_cmp name_cmp name e.0) refl
-  where
-    by : (b : Bool) → eq_by_cmp name_cmp name e.0 ≡ b → cond b (Some e.1) (find name_cmp name es) ≡ Some payload
-    by true tied =
-        let none : find name_cmp name es ≡ None = ap (λ n. find name_cmp n es) (same_name name e.0 tied) ∙ not_above e.0 es below in absurd cc
-    by false other = found
-
-found_first : (e : Name × Payload) (es : List (Name × Payload)) → find name_cmp e.0 (e ∷ es) ≡ Some e.1
-found_first e es = ap (λ b. cond b (Some e.1) (find name_cmp e.0 es)) ((eq_by_cmp_equiv name_cmp_total).refl e.0)
 
 checked : (s : Scene) (es : List (Name × Payload)) → T (is_sorted name_cmp es)
     → ((name : Name) (payload : Payload) → find name_cmp name es ≡ Some payload → IsAllowed s (name, payload)) → check_all s es ≡ Ok tt
@@ -112,7 +86,7 @@ merged_both_ways s i j in_i in_j are_i are_j horizon base = by (i == j) refl
         subst (λ (x : Peer). AreAllowed s.scene x.commands) (sym now_i) (allowed_merge s.scene m k are_i.allowed (map_checked s.scene k are_j.allowed)) in
         let from : IsFrom (peer_in u i).horizon (peer_in u i).commands =
         subst (λ (x : Peer). IsFrom x.horizon x.commands) (sym now_i)
-        (IsFrom-merge p.horizon m k are_i.from (subst (λ h. IsFrom h k) (sym horizon) are_j.from)) in
+        (from_merge p.horizon m k are_i.from (subst (λ h. IsFrom h k) (sym horizon) are_j.from)) in
         let one_horizon : (peer_in u j).horizon ≡ (peer_in u i).horizon =
         ap (λ (x : Peer). x.horizon) now_j ∙ sym horizon ∙ ap (λ (x : Peer). x.horizon) (sym now_i) in
         let one_base : (peer_in u j).base ≡ (peer_in u i).base =

@@ -28,9 +28,10 @@ use Rattle.pf_events.specs.declared.event.Reply.{Reply}
 use Rattle.pf_events.specs.declared.event.Reply.TheVariants.{Issued, Took, Merged, Advanced, Sealed}
 use Rattle.pf_events.specs.Laws.{if_taken, listed_commands, new_commands, commands_for}
 use Rattle.pf_events.specs.Session.{Session, merge_of, other_peer_at, peer_answer, peer_in, event_peer, reply_and_peer, session_after, session_after_all}
-use Rattle.pf_events.proofs.Horizons.{IsFrom-merge, IsFrom-put, merge-put_all}
+use Rattle.pf_events.proofs.Horizons.{IsFrom-put, merge-put_all}
 use Rattle.pf_events.proofs.Maps.{put_all-commands_of}
 use Rattle.pf_events.proofs.Sessions.{length-session_after}
+use Rattle.pf_rollback.proofs.Late.{from_merge}
 
 -- ---- one peer
 
@@ -83,7 +84,7 @@ merge_late p others count true test = record {
   horizon = λ reply. refl;
   base = λ reply. refl;
   commands = λ reply. sym (put_all-commands_of p.commands others);
-  from = λ reply from. IsFrom-merge p.horizon p.commands others from (is_from-IsFrom p.horizon others test);
+  from = λ reply from. from_merge p.horizon p.commands others from (is_from-IsFrom p.horizon others test);
 }
 merge_late p others count false test = refused_outcome p (listed_commands others) _
 

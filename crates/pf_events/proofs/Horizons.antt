@@ -1,7 +1,7 @@
 -- Maps of commands from a horizon on.
-use Rattle.std.proofs.Common.{◌≡◌, ℕ, ◌<◌, ◌≤◌, Bool, true, false, cond, nat_le, List, Option, Some, None, refl, ap, ap₂, sym, subst, ◌∙◌, arith}
+use Rattle.std.proofs.Common.{◌≡◌, ℕ, ◌<◌, ◌≤◌, Bool, true, false, cond, nat_le, List, Option, Some, None, refl, ap, sym, subst, ◌∙◌, arith}
 use Rattle.std.proofs.lemmas.Bool.Decides.{nat_tests}
-use Rattle.std.specs.FinMap.{empty, get, get-empty}
+use Rattle.std.specs.FinMap.{empty, get}
 use Rattle.std.specs.Ordering.{eq_by_cmp}
 use Rattle.pf_commands.specs.Merge.{CommandMap, heaviest_of, merge, name_cmp, put_all, singleton}
 use Rattle.pf_commands.specs.Name.{Name}
@@ -11,12 +11,8 @@ use Rattle.pf_commands.specs.declared.payload.Payload.{Payload}
 use Rattle.pf_commands.proofs.Changes.{get-merge_one}
 use Rattle.pf_commands.proofs.Lists.{empty-merge, put_all-merge}
 use Rattle.pf_commands.proofs.Merging.{get-merge, merge_assoc, same_commands, same_name}
-use Rattle.pf_commands.proofs.Since.{IsFrom-from, commands_from-IsFrom, commands_from-merge, get-commands_from}
-
-pub IsFrom-merge : (h : ℕ) (m k : CommandMap) → IsFrom h m → IsFrom h k → IsFrom h (merge m k)
-IsFrom-merge h m k of_m of_k =
-    subst (IsFrom h) (commands_from-merge h m k ∙ ap₂ merge (commands_from-IsFrom h m of_m) (commands_from-IsFrom h k of_k))
-    (IsFrom-from h (merge m k))
+use Rattle.pf_commands.proofs.Since.{get-commands_from}
+use Rattle.pf_rollback.proofs.Late.{from_none}
 
 -- what is from a tick on is from each earlier one on
 pub IsFrom-earlier : (h tick : ℕ) (m : CommandMap) → h ≤ tick → IsFrom tick m → IsFrom h m
@@ -42,11 +38,8 @@ IsFrom-put h m n p from late name payload held = by (eq_by_cmp name_cmp name n) 
     by true tied there = let same : name.tick ≡ n.tick = ap (λ (x : Name). x.tick) (same_name name n tied) in omega arith
     by false apart there = from name payload there
 
-pub IsFrom-empty : (h : ℕ) → IsFrom h empty
-IsFrom-empty h name payload held = let none = get-empty {X = Payload} name_cmp name in absurd cc
-
 pub IsFrom-singleton : (h : ℕ) (n : Name) (p : Payload) → h ≤ n.tick → IsFrom h (singleton n p)
-IsFrom-singleton h n p late = subst (IsFrom h) (empty-merge (singleton n p)) (IsFrom-put h empty n p (IsFrom-empty h) late)
+IsFrom-singleton h n p late = subst (IsFrom h) (empty-merge (singleton n p)) (IsFrom-put h empty n p (from_none h) late)
 
 -- ---- what is sealed, and what is held
 

@@ -13,8 +13,7 @@ use Rattle.pf_commands.specs.Merge.{name_cmp, CommandMap, merge, put_all, single
 use Rattle.pf_commands.specs.declared.payload.Command.{Command}
 use Rattle.pf_commands.specs.declared.payload.Payload.{Payload}
 use Rattle.pf_commands.proofs.Changes.{put_entries, put_entries-all}
-use Rattle.pf_commands.proofs.Lists.{put_all-merge}
-use Rattle.pf_commands.proofs.Merging.{same_commands, merge_assoc, merge_keeps, merge_same}
+use Rattle.pf_commands.proofs.Merging.{same_commands, merge_assoc, merge_same}
 use Rattle.pf_commands.proofs.Names.{name_cmp_total}
 use Rattle.pf_events.specs.Laws.{listed_commands}
 
@@ -67,6 +66,3 @@ absorbs_merged m k = merge_assoc m k k ∙ ap (merge m) (merge_same k)
 
 pub absorbs_more : (v w k : CommandMap) → Absorbs v w → Absorbs w k → Absorbs v k
 absorbs_more v w k outer inner = ap (λ x. merge x k) (sym outer) ∙ merge_assoc v w k ∙ ap (merge v) inner ∙ outer
-
-pub absorbs_before : (m : CommandMap) (cs : List Command) → Absorbs (put_all m cs) m
-absorbs_before m cs = ap (λ x. merge x m) (put_all-merge m cs) ∙ merge_keeps m (put_all _ cs) ∙ sym (put_all-merge m cs)

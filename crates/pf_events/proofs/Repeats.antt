@@ -32,9 +32,10 @@ use Rattle.pf_events.specs.Laws.{if_taken}
 use Rattle.pf_events.specs.Session.{Session, merge_of, other_peer_at, peer_answer, peer_in, event_peer, replies_to, reply_and_peer, reply_to, session_after, session_after_all}
 use Rattle.pf_events.proofs.Calls.{Brings, advances, asked_peer, issues, merges, other_peer, puts, scene-session_after_all}
 use Rattle.pf_events.proofs.Horizons.{IsFrom-earlier, IsFrom-singleton, commands_from-later}
-use Rattle.pf_events.proofs.Maps.{Absorbs, absorbs_before, absorbs_merged, absorbs_more}
+use Rattle.pf_events.proofs.Maps.{Absorbs, absorbs_merged, absorbs_more}
 use Rattle.pf_events.proofs.Refusals.{same_after}
 use Rattle.pf_events.proofs.Sessions.{length-session_after}
+use Rattle.pf_commands.proofs.Lists.{put_all-keeps}
 
 settled_peer : (s : Scene) (q p : Peer) (i : ℕ) → (peer_answer s q p (Settle i)).1 ≡ p
 unfolding peer_answer
@@ -72,7 +73,7 @@ on_brought p cs r reply brings =
     let same = brings.horizon reply in record {
       horizon = omega (arith, same);
       has = λ m has. rw (same, brings.commands reply)
-          (absorbs_more (put_all p.commands (if_taken r cs)) p.commands (commands_from p.horizon m) (absorbs_before p.commands (if_taken r cs)) has);
+          (absorbs_more (put_all p.commands (if_taken r cs)) p.commands (commands_from p.horizon m) (put_all-keeps p.commands (if_taken r cs)) has);
     }
 
 -- after a seal

@@ -1,6 +1,5 @@
 -- Elements of lists by their places.
-use Rattle.std.proofs.Common.{◌≡◌, ◌≢◌, ℕ, zero, suc, List, [], ◌∷◌, Option, Some, length, refl, sym, ◌<◌, ap, ap₂, subst, slice_get, slice_set, map, get_or, arith}
-use Rattle.std.proofs.lemmas.List.{get_or-map, length-map}
+use Rattle.std.proofs.Common.{◌≡◌, ◌≢◌, ℕ, zero, suc, List, [], ◌∷◌, Option, Some, length, refl, ap, ap₂, subst, slice_get, slice_set, map, get_or, arith}
 use Rattle.std.proofs.lemmas.Option.{get_or_from_slice_get, slice_get-get_or, slice_get_within}
 use Rattle.std.specs.List.{zip}
 use Rattle.std.specs.Prelude.{All}
@@ -34,11 +33,6 @@ all_at P xs i x all here = subst P (get_or_from_slice_get xs i x x here) (all i 
 
 pub all_from : {X : Type 0} (P : X → Type 0) (xs : List X) → ((i : ℕ) (x : X) → slice_get xs i ≡ Some x → P x) → All P xs
 all_from P xs each = λ i d within. each i (get_or xs i d) (slice_get-get_or xs i d within)
-
--- what holds of what is made of each element
-pub all_unmapped : {X Y : Type 0} (P : Y → Type 0) (f : X → Y) (xs : List X) → All P (map f xs) → All (λ x. P (f x)) xs
-all_unmapped P f xs h = λ k d within.
-    subst P (get_or-map f xs k d (f d) within) (h k (f d) (subst (λ n. k < n) (sym (length-map xs f)) within))
 
 -- the element of a mapped list comes from one of the list
 pub record IsMapped {X Y : Type 0} (f : X → Y) (xs : List X) (i : ℕ) (y : Y) : Type 0 where

@@ -31,13 +31,7 @@ use Rattle.pf_islands.proofs.Members.{chosen_at, filter_rises, range_rises}
 use Rattle.pf_islands.proofs.Starting.{group_low, groups_long, groups_named}
 use Rattle.pf_islands.proofs.Together.{groups_woken, name_of, rows_are_active}
 use Rattle.pf_islands.proofs.Whole.{rows_in_order_among}
-
--- rising numbers are not below the least
-not_below : (least : ℕ) (ns : List ℕ) (i n : ℕ) → IsRising least ns → slice_get ns i ≡ Some n → least ≤ n
-not_below least [] i n rising at = absurd cc
-not_below least (x ∷ ns) zero n rising at = let e : x ≡ n = same_Some x n at in omega (arith, e, rising.0)
-not_below least (x ∷ ns) (suc i) n rising at =
-    let up = not_below (suc x) ns i n rising.1 at in omega (arith, up, rising.0)
+use Rattle.pf_islands.proofs.PutBack.{rising_at}
 
 -- what stands at two places of rising numbers is different
 rising_once : (least : ℕ) (ns : List ℕ) (k l n : ℕ) → IsRising least ns → slice_get ns k ≡ Some n → slice_get ns l ≡ Some n
@@ -46,10 +40,10 @@ rising_once least [] k l n rising here there = absurd cc
 rising_once least (x ∷ ns) zero zero n rising here there = refl
 rising_once least (x ∷ ns) zero (suc l) n rising here there =
     let is : x ≡ n = same_Some x n here in
-    absurd (omega (arith, is, not_below (suc x) ns l n rising.1 there))
+    absurd (omega (arith, is, rising_at (suc x) ns l n rising.1 there))
 rising_once least (x ∷ ns) (suc k) zero n rising here there =
     let is : x ≡ n = same_Some x n there in
-    absurd (omega (arith, is, not_below (suc x) ns k n rising.1 here))
+    absurd (omega (arith, is, rising_at (suc x) ns k n rising.1 here))
 rising_once least (x ∷ ns) (suc k) (suc l) n rising here there = ap suc (rising_once (suc x) ns k l n rising.1 here there)
 
 -- the phase Activity keeps each body

@@ -21,6 +21,7 @@ use Rattle.pf_islands.proofs.Filled.{touches_group}
 use Rattle.pf_islands.proofs.Listed.{awake_there}
 use Rattle.pf_islands.proofs.Members.{has_filter, has_range}
 use Rattle.pf_islands.proofs.SettledGroups.{filter_same}
+use Rattle.pf_cache.proofs.Updating.{map_same}
 
 -- ---- chosen elements
 
@@ -60,11 +61,6 @@ any_same : {X : Type 0} (p q : X → Bool) (xs : List X) → All (λ x. p x ≡ 
 any_same p q [] all = refl
 any_same p q (x ∷ xs) all =
     ap₂ (λ a b. a || b) (All-head (λ y. p y ≡ q y) x xs all) (any_same p q xs (All-tail (λ y. p y ≡ q y) x xs all))
-
-map_same : {X Y : Type 0} (f g : X → Y) (xs : List X) → All (λ x. f x ≡ g x) xs → map f xs ≡ map g xs
-map_same f g [] all = refl
-map_same f g (x ∷ xs) all =
-    ap₂ (λ y ys. y ∷ ys) (All-head (λ z. f z ≡ g z) x xs all) (map_same f g xs (All-tail (λ z. f z ≡ g z) x xs all))
 
 has_rows_is : (rows : List Row) → has_rows rows ≡ list_any (λ r. true) rows
 has_rows_is [] = refl

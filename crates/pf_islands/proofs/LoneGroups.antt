@@ -85,7 +85,7 @@ one_number n start (suc count) low high =
 
 -- ---- groups of one body
 
-negated : (d : Bool) → not d ≡ true → d ≡ false
+pub negated : (d : Bool) → not d ≡ true → d ≡ false
 negated true e = absurd (true≢false (sym e))
 negated false e = refl
 

@@ -14,12 +14,13 @@ use Rattle.pf_cache.proofs.FoundRows.{all_found, none_found, row_rank, rows_rise
 use Rattle.pf_islands.specs.Join.{IsAtHome, joined_bodies, joined_contacts, with_states}
 use Rattle.pf_islands.specs.Laws.{HasBody, HoldsRow}
 use Rattle.pf_islands.specs.Split.{Island}
-use Rattle.pf_islands.proofs.Elements.{all_at, all_from, all_unmapped, same_element, set_length, set_other, set_same}
+use Rattle.pf_islands.proofs.Elements.{all_at, all_from, same_element, set_length, set_other, set_same}
+use Rattle.pf_cache.proofs.Editing.{all_unmap}
 
 -- ---- bodies
 
 -- a number of a rising list is not below the first bound
-rising_at : (least : ℕ) (numbers : List ℕ) (p n : ℕ) → IsRising least numbers → slice_get numbers p ≡ Some n → least ≤ n
+pub rising_at : (least : ℕ) (numbers : List ℕ) (p n : ℕ) → IsRising least numbers → slice_get numbers p ≡ Some n → least ≤ n
 rising_at least [] p n rising here = absurd cc
 rising_at least (m ∷ numbers) zero n rising here = omega (arith, rising.0, same_element m n here)
 rising_at least (m ∷ numbers) (suc p) n rising here =
@@ -145,7 +146,7 @@ same_key k l first second same =
 
 key_in_range : (rows : List Row) (p : ℕ) (r : Row) → AreRows rows → slice_get rows p ≡ Some r → IsKey (key_of r.entry.touch)
 key_in_range rows p r order here =
-    all_at (λ (x : Row). IsKey (key_of x.entry.touch)) rows p r (all_unmapped (λ t. IsKey (key_of t)) (λ (x : Row). x.entry.touch) rows order.keys) here
+    all_at (λ (x : Row). IsKey (key_of x.entry.touch)) rows p r (all_unmap (λ t. IsKey (key_of t)) (λ (x : Row). x.entry.touch) rows order.keys) here
 
 behind_row : (i : Island) (islands : List Island) (k : ℕ) (r : Row) → HoldsRow islands k r → HoldsRow (i ∷ islands) (suc k) r
 behind_row i islands k r has = record {

@@ -21,9 +21,9 @@ use Rattle.pf_islands.specs.Island.{IsOwnOrOther, IsOwnSide, has_number, is_amon
 use Rattle.pf_islands.specs.Join.{IsAtHome}
 use Rattle.pf_islands.specs.Rows.{IsRowOf, is_awake_at}
 use Rattle.pf_islands.specs.Split.{AreTogether, AreWoken, IsActiveRow, IsIslandOf, Island, active_labels, is_active_label, island_of, islands}
-use Rattle.pf_islands.proofs.Elements.{all_unmapped}
 use Rattle.pf_islands.proofs.Filled.{group_active, is_member, name_at, touches_group}
 use Rattle.pf_cache.proofs.ChosenNumbers.{chosen_pass, range_within}
+use Rattle.pf_cache.proofs.Editing.{all_unmap}
 
 -- ---- places among numbers
 
@@ -101,7 +101,7 @@ rows_in_order_among numbers rows order = record {
   keys = All-map (λ t. IsKey (key_of t)) (λ (r : Row). r.entry.touch) (rows_among numbers rows)
       (All-map (λ (r : Row). IsKey (key_of r.entry.touch)) (row_among numbers) (filter (touches_one numbers) rows)
       (All-filter (touches_one numbers) (λ (r : Row). IsKey (key_of r.entry.touch)) rows
-      (all_unmapped (λ t. IsKey (key_of t)) (λ (r : Row). r.entry.touch) rows order.keys)));
+      (all_unmap (λ t. IsKey (key_of t)) (λ (r : Row). r.entry.touch) rows order.keys)));
 }
   where
     ranks : List Row → List ℕ

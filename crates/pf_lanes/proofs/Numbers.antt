@@ -4,7 +4,7 @@ use Rattle.std.proofs.Common.{◌≡◌, ℕ, ◌+◌, ◌*◌, ◌≤◌, ◌<�
 use Rattle.std.proofs.lemmas.Int.{ints, clamps, unsigned_abs-mul}
 use Rattle.std.specs.Int.RustNames.{unsigned_abs}
 use Rattle.pf_num.specs.Fx.{saturate, sum, difference, product}
-use Rattle.pf_num.proofs.Nearest.{meets}
+use Rattle.pf_num.proofs.Nearest.{meets, abs-difference}
 use Rattle.pf_num.proofs.Signs.{product_in_range}
 use Rattle.pf_lanes.specs.Lanes.{Lane, Lanes, number_in}
 use Rattle.pf_lanes.specs.Doubles.{FitsDouble}
@@ -44,9 +44,6 @@ product_is x c h = let small = product-small x c (product_fits x c h) in sym (pr
 sum_size : (x y : ℤ) → unsigned_abs (x +ℤ y) ≤ unsigned_abs x + unsigned_abs y
 sum_size x y = omega (arith, ints)
 
-difference_size : (x y : ℤ) → unsigned_abs (x -ℤ y) ≤ unsigned_abs x + unsigned_abs y
-difference_size x y = omega (arith, ints)
-
 -- a rounded product is no further from the exact one than half a unit
 product_bound : (x c : ℤ) → unsigned_abs (rounded_product x c) * 33554432 ≤ unsigned_abs x * unsigned_abs c * 2 + 16777216
 product_bound x c =
@@ -69,7 +66,7 @@ module _ (r a b : Lanes) (k : Lane) where
   difference_in e h = ap (number_in k) e ∙ number_in-zip_lanes (λ x y. x -ℤ y) a b k ∙ sym (difference_is (number_in k a) (number_in k b) h)
 
   pub difference_size_in : r ≡ zip_lanes (λ x y. x -ℤ y) a b → unsigned_abs (number_in k r) ≤ unsigned_abs (number_in k a) + unsigned_abs (number_in k b)
-  difference_size_in e = rw (e, number_in-zip_lanes (λ x y. x -ℤ y) a b k) (difference_size (number_in k a) (number_in k b))
+  difference_size_in e = rw (e, number_in-zip_lanes (λ x y. x -ℤ y) a b k) (abs-difference (number_in k a) (number_in k b))
 
   pub product_in : r ≡ zip_lanes rounded_product a b → HaveSmallProduct (number_in k a) (number_in k b) → number_in k r ≡ product (number_in k a) (number_in k b)
   product_in e h = ap (number_in k) e ∙ number_in-zip_lanes rounded_product a b k ∙ sym (product_is (number_in k a) (number_in k b) h)

@@ -29,7 +29,7 @@ record IsOverlap (z : ℤ) : Type 0 where
 
 -- ---- the threshold
 
-times-positive : (k h : ℤ) → pos 0 ≤ℤ k → pos 0 ≤ℤ h → pos 0 ≤ℤ product k h
+pub times-positive : (k h : ℤ) → pos 0 ≤ℤ k → pos 0 ≤ℤ h → pos 0 ≤ℤ product k h
 times-positive k h from_k from_h =
     let e = product-zero h in let m = product-monotone (pos 0) k h from_h from_k in omega (arith, ints, e, m)
 

@@ -1,5 +1,5 @@
 -- Two bodies have at most two contact points, in ascending order of features.
-use Rattle.std.proofs.Common.{◌≡◌, ◌≢◌, ℕ, ◌+◌, ◌<◌, ℤ, Bool, true, false, List, [], ◌∷◌, Option, Some, None, refl, arith}
+use Rattle.std.proofs.Common.{◌≡◌, ◌≢◌, ℕ, ◌+◌, ◌<◌, ◌≤◌, ℤ, Bool, true, false, List, [], ◌∷◌, length, Option, Some, None, refl, arith}
 use Rattle.std.proofs.lemmas.Bool.Decides.{nat_tests}
 use Rattle.std.specs.Prelude.{int_lt, nat_lt, if◌then◌else◌}
 use Rattle.pf_shapes.specs.declared.fixture.Shape.{Shape}
@@ -22,6 +22,13 @@ AreAscending [] = Unit {0}
 AreAscending (p ∷ []) = Unit {0}
 AreAscending (p ∷ (q ∷ [])) = p.feature < q.feature
 AreAscending (p ∷ (q ∷ (r ∷ rest))) = ⊥
+
+-- so there are at most two
+pub few_points : (points : List ContactPoint) → AreAscending points → length points ≤ 2
+few_points [] h = omega arith
+few_points (p ∷ []) h = omega arith
+few_points (p ∷ (q ∷ [])) h = omega arith
+few_points (p ∷ (q ∷ (r ∷ rest))) h = absurd h
 
 -- ---- marks of a segment
 

@@ -168,7 +168,7 @@ difference_times m n q =
 apart_is : (p q n m : ℤ) → (m -ℤ n) *ℤ q ≡ (p -ℤ n *ℤ q) -ℤ (p -ℤ m *ℤ q)
 apart_is p q n m = difference_times m n q ∙ rest p (n *ℤ q) (m *ℤ q)
 
-abs-difference : (x y : ℤ) → unsigned_abs (x -ℤ y) ≤ unsigned_abs x + unsigned_abs y
+pub abs-difference : (x y : ℤ) → unsigned_abs (x -ℤ y) ≤ unsigned_abs x + unsigned_abs y
 abs-difference x y = grind (arith, ints)
 
 not_both_even : (n m : ℤ) → unsigned_abs (m -ℤ n) ≡ 1 → unsigned_abs n % 2 ≡ 0 → unsigned_abs m % 2 ≡ 0 → ⊥

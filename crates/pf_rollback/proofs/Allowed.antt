@@ -1,6 +1,6 @@
 -- Maps of commands that a scene allows: a command that it allows and a map that it allows are merged
 -- into such a map, and what is left of one after a seal is such a map.
-use Rattle.std.proofs.Common.{◌≡◌, ℕ, ◌⊎◌, inl, inr, Bool, true, false, cond, List, [], ◌∷◌, Option, Some, None, Result, Ok, Err, nat_le, nat_lt, if◌then◌else◌, refl, ap, sym, ◌∙◌, subst, ⊎_elim}
+use Rattle.std.proofs.Common.{◌≡◌, ℕ, ◌⊎◌, Bool, true, false, cond, List, [], ◌∷◌, Some, None, Result, Ok, Err, nat_le, refl, ap, sym, ◌∙◌, subst, ⊎_elim}
 use Rattle.std.specs.Ordering.{eq_by_cmp}
 use Rattle.std.specs.FinMap.{get, get-empty, get-entries, empty, entries, find}
 use Rattle.pf_shapes.specs.Scene.{Scene}
@@ -9,24 +9,12 @@ use Rattle.pf_commands.specs.declared.payload.Payload.{Payload}
 use Rattle.pf_commands.specs.Check.{check, first_failure, check_all, IsAllowed}
 use Rattle.pf_commands.specs.Merge.{name_cmp, CommandMap, heaviest_of, merge, singleton}
 use Rattle.pf_commands.specs.Name.{Name}
-use Rattle.pf_commands.specs.Payload.{weight}
 use Rattle.pf_commands.specs.Ticks.{commands_from}
 use Rattle.pf_commands.proofs.Changes.{get-merge_one}
 use Rattle.pf_commands.proofs.Merging.{same_name, get-merge}
 use Rattle.pf_commands.proofs.Since.{get-commands_from}
 use Rattle.pf_rollback.specs.Core.{AreAllowed}
-
--- the heavier of two payloads is one of them
-pub one_of : (held other : Option Payload) (payload : Payload) → heaviest_of held other ≡ Some payload
-    → (held ≡ Some payload) ⊎ (other ≡ Some payload)
-one_of None other payload is = inr is
-one_of (Some p) None payload is = inl is
-one_of (Some p) (Some q) payload is = by (nat_lt (weight p) (weight q)) is
-  where
-    by : (b : Bool) → ◌≡◌ {A = Option Payload} (Some (if b then q else p)) (Some payload)
-        → (◌≡◌ {A = Option Payload} (Some p) (Some payload)) ⊎ (◌≡◌ {A = Option Payload} (Some q) (Some payload))
-    by true is = inr is
-    by false is = inl is
+use Rattle.pf_commands.proofs.Weights.{heavier_of_either}
 
 pub allowed_empty : (s : Scene) → AreAllowed s empty
 allowed_empty s name payload is = let none = sym (get-empty name_cmp name) ∙ is in absurd cc
@@ -43,7 +31,7 @@ allowed_put s m n p are checked name payload is = by (eq_by_cmp name_cmp name n)
         ⊎_elim
         (λ old. are name payload (ap (get m) same ∙ old))
         (λ new. let this : p ≡ payload = cc in subst (λ x. IsAllowed s (x, payload)) (sym same) (subst (λ x. IsAllowed s (n, x)) this checked))
-        (one_of (get m n) (Some p) payload is)
+        (heavier_of_either (get m n) (Some p) payload is)
 
 -- a command of a list that is allowed is allowed
 found_allowed : (s : Scene) (es : List (Name × Payload)) (name : Name) (payload : Payload) → check_all s es ≡ Ok tt
@@ -67,7 +55,7 @@ allowed_merge s m k are checked name payload is =
     ⊎_elim
     (λ old. are name payload old)
     (λ new. found_allowed s (entries k) name payload checked (sym (get-entries k name) ∙ new))
-    (one_of (get m name) (get k name) payload (sym (get-merge m k name) ∙ is))
+    (heavier_of_either (get m name) (get k name) payload (sym (get-merge m k name) ∙ is))
 
 -- commands that are left of a map are allowed
 pub allowed_from : (s : Scene) (tick : ℕ) (m : CommandMap) → AreAllowed s m → AreAllowed s (commands_from tick m)

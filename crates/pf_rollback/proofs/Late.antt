@@ -14,7 +14,7 @@ use Rattle.pf_commands.specs.Ticks.{IsFrom, is_from}
 use Rattle.pf_commands.proofs.Changes.{get-merge_one}
 use Rattle.pf_commands.proofs.Merging.{same_name, get-merge}
 use Rattle.pf_rollback.specs.Core.{news_tick}
-use Rattle.pf_rollback.proofs.Allowed.{one_of}
+use Rattle.pf_commands.proofs.Weights.{heavier_of_either}
 
 -- ---- maps
 
@@ -32,7 +32,7 @@ from_put horizon m c from late name payload held =
 
 pub from_merge : (horizon : ℕ) (m k : CommandMap) → IsFrom horizon m → IsFrom horizon k → IsFrom horizon (merge m k)
 from_merge horizon m k mine others name payload held =
-    ⊎_elim (mine name payload) (others name payload) (one_of (get m name) (get k name) payload (sym (get-merge m k name) ∙ held))
+    ⊎_elim (mine name payload) (others name payload) (heavier_of_either (get m name) (get k name) payload (sym (get-merge m k name) ∙ held))
 
 -- ---- least ticks of news
 

@@ -19,7 +19,7 @@ use Rattle.pf_commands.specs.Ticks.{IsFrom, commands_before, commands_from, is_f
 use Rattle.pf_commands.proofs.Merging.{get-merge}
 use Rattle.pf_commands.proofs.Since.{commands_from-IsFrom, get-commands_before, IsFrom-from, is_from-IsFrom}
 use Rattle.pf_commands.proofs.Ticks.{same_part}
-use Rattle.pf_commands.proofs.Weights.{heavier_of-none}
+use Rattle.pf_commands.proofs.Weights.{heavier_of-none, heavier_of_either}
 use Rattle.pf_step.specs.Simulation.{sim}
 use Rattle.pf_step.specs.World.{World, same_world}
 use Rattle.pf_step.proofs.Ticks.{sim_same}
@@ -27,7 +27,6 @@ use Rattle.pf_rollback.specs.declared.error.Refusal.{Refusal}
 use Rattle.pf_rollback.specs.declared.error.Refusal.TheVariants.{TickLimit, NumbersSpent, TooOld, HorizonsDiffer, BasesDiffer}
 use Rattle.pf_rollback.specs.Peer.{Peer, IsPeer, if_allowed, new_peer, with_command, with_commands, with_frame, next_command, next_number, put, take, issue, merge_map, merge_sealed, advance, world_of, world_at, sealed_peer, seal}
 use Rattle.pf_rollback.specs.Sealing.{HasSealed}
-use Rattle.pf_rollback.proofs.Allowed.{one_of}
 use Rattle.pf_rollback.proofs.Late.{from_put, from_merge}
 use Rattle.pf_rollback.proofs.Simulation.{sim_at_continued, sim_at_horizon, sim_at_sealed}
 use Rattle.pf_rollback.proofs.Worlds.{CanShow, held_answer, world_at-held, world_at-above}
@@ -160,7 +159,7 @@ sealed_more s sealed p tick has later =
           ⊎_elim
           (λ old. let low = has.before name payload old in omega arith)
           (λ new. before_held p.commands tick name payload new)
-          (one_of (get sealed name) (get before name) payload (sym (get-merge sealed before name) ∙ held));
+          (heavier_of_either (get sealed name) (get before name) payload (sym (get-merge sealed before name) ∙ held));
       from = IsFrom-from tick p.commands;
     }
 

@@ -3,16 +3,14 @@ use Rattle.std.proofs.Common.{◌≡◌, ℕ, zero, suc, ◌+◌, ◌-◌, ◌%�
 use Rattle.std.specs.Prelude.{Contains}
 use Rattle.std.proofs.lemmas.Bool.Decides.{nat_tests}
 use Rattle.std.proofs.lemmas.List.{get_or-drop}
-use Rattle.std.proofs.lemmas.List.Elements.{Contains-append_left, Contains-append_right, Contains-append_cases, Contains-push, Contains-push_cases}
+use Rattle.std.proofs.lemmas.List.Elements.{Contains-append_right, Contains-append_cases, Contains-push_cases}
 use Rattle.std.proofs.Math.Seq.{get_or-append_seam}
 use Rattle.circular_buffer.specs.Buffer.{keep_last}
 use Rattle.pf_rollback.specs.declared.snapshots.TheConstants.{KEYFRAME_INTERVAL}
 use Rattle.pf_rollback.specs.Kept.{Ticks, last_tick, settled_tick, up_to, later_than, nearest_tick, ticks_up_to, ticks_after_more, ticks_after_settling}
+use Rattle.pf_commands.proofs.News.{first_of}
 
 -- ---- ticks up to a tick
-
-head_contained : (t : ℕ) (ts : List ℕ) → Contains (t ∷ ts) t
-head_contained t ts = Contains-append_left (t ∷ []) ts t (Contains-push [] t)
 
 contained_cases : (t : ℕ) (ts : List ℕ) (u : ℕ) → Contains (t ∷ ts) u → (t ≡ u) ⊎ Contains ts u
 contained_cases t ts u has =
@@ -28,7 +26,7 @@ kept_up_to (t ∷ ts) last u has = by (nat_le t last) refl has (kept_up_to ts la
     by true low has rest =
         let le : t ≤ last = grind (arith, nat_tests) in
         ⊎_elim
-        (λ (same : t ≡ u). (subst (λ x. Contains (t ∷ ts) x) same (head_contained t ts), omega arith))
+        (λ (same : t ≡ u). (subst (λ x. Contains (t ∷ ts) x) same (first_of t ts), omega arith))
         (λ later. let there = rest later in (Contains-append_right (t ∷ []) ts u there.0, there.1))
         (contained_cases t (up_to last ts) u has)
     by false high has rest = let there = rest has in (Contains-append_right (t ∷ []) ts u there.0, there.1)
@@ -39,7 +37,7 @@ up_to_kept (t ∷ ts) last u has low = by (nat_le t last) refl (contained_cases 
   where
     by : (b : Bool) → nat_le t last ≡ b → (t ≡ u) ⊎ Contains ts u → (Contains ts u → Contains (up_to last ts) u)
         → Contains (cond b (t ∷ up_to last ts) (up_to last ts)) u
-    by true le (inl same) rest = subst (λ x. Contains (t ∷ up_to last ts) x) same (head_contained t (up_to last ts))
+    by true le (inl same) rest = subst (λ x. Contains (t ∷ up_to last ts) x) same (first_of t (up_to last ts))
     by true le (inr later) rest = Contains-append_right (t ∷ []) (up_to last ts) u (rest later)
     by false gt (inl same) rest = absurd (let above : last < t = grind (arith, nat_tests) in omega arith)
     by false gt (inr later) rest = rest later
@@ -58,7 +56,7 @@ kept_later (t ∷ ts) tick u has = by (nat_lt tick t) refl has (kept_later ts ti
     by true high has rest =
         let lt : tick < t = grind (arith, nat_tests) in
         ⊎_elim
-        (λ (same : t ≡ u). (subst (λ x. Contains (t ∷ ts) x) same (head_contained t ts), omega arith))
+        (λ (same : t ≡ u). (subst (λ x. Contains (t ∷ ts) x) same (first_of t ts), omega arith))
         (λ later. let there = rest later in (Contains-append_right (t ∷ []) ts u there.0, there.1))
         (contained_cases t (later_than tick ts) u has)
     by false low has rest = let there = rest has in (Contains-append_right (t ∷ []) ts u there.0, there.1)
@@ -69,7 +67,7 @@ later_kept (t ∷ ts) tick u has high = by (nat_lt tick t) refl (contained_cases
   where
     by : (b : Bool) → nat_lt tick t ≡ b → (t ≡ u) ⊎ Contains ts u → (Contains ts u → Contains (later_than tick ts) u)
         → Contains (cond b (t ∷ later_than tick ts) (later_than tick ts)) u
-    by true lt (inl same) rest = subst (λ x. Contains (t ∷ later_than tick ts) x) same (head_contained t (later_than tick ts))
+    by true lt (inl same) rest = subst (λ x. Contains (t ∷ later_than tick ts) x) same (first_of t (later_than tick ts))
     by true lt (inr later) rest = Contains-append_right (t ∷ []) (later_than tick ts) u (rest later)
     by false le (inl same) rest = absurd (let below : t ≤ tick = grind (arith, nat_tests) in omega arith)
     by false le (inr later) rest = rest later

@@ -41,9 +41,6 @@ later_none i =
     let none : fresh i i ≡ [] = drop_all (length (got i)) (got i) (omega arith) in
     (search, sym (ap (λ l. got i ++ l) none ∙ append-nil (got i)))
 
-pub fresh_none : (i : LinkIn) → fresh i i ≡ []
-fresh_none i = drop_all (length (got i)) (got i) (omega arith)
-
 -- one frame more was taken
 module _ (a b c : LinkIn) (frame : Frame) (later : IsLater a b) (same : SameIn b c) (more : got c ≡ got b ++ frame ∷ []) where
   pub fresh_more : fresh a c ≡ fresh a b ++ frame ∷ []

@@ -23,6 +23,8 @@ use Rattle.pf_solver.specs.Impulse.{Motion, after_round, after_warm_start, frict
 use Rattle.pf_solver.specs.Solve.{pre_step_body, prepared_row, solved_batch}
 use Rattle.pf_solver.specs.Velocities.{Batch, Step, bodies_after, body_with, pass, passes, row_after, with_motion}
 use Rattle.pf_solver.proofs.Limits.{never_pulls, within_friction}
+use Rattle.pf_cache.proofs.Editing.{all_unmap}
+use Rattle.pf_islands.proofs.Elements.{set_other}
 
 -- a row without its accumulated impulses, the only part of it that a pass changes
 abbrev pub unloaded : Row → Row
@@ -66,26 +68,10 @@ from_map f [] i y h = absurd (none-some y h)
 from_map f (x ∷ xs) zero y h = (x, refl, same_Some (f x) y h)
 from_map f (x ∷ xs) (suc i) y h = from_map f xs i y h
 
--- what holds of each element of a mapped list
-All-from_map : {A B : Type 0} (P : B → Type 0) (f : A → B) (xs : List A) → All P (map f xs) → All (λ x. P (f x)) xs
-All-from_map P f [] h = All-nil (λ x. P (f x))
-All-from_map P f (x ∷ xs) h =
-    All-cons (λ y. P (f y)) x xs (All-head P (f x) (map f xs) h)
-    (All-from_map P f xs (All-tail P (f x) (map f xs) h))
-
--- a write at another place leaves the element at this one
-set_elsewhere : {A : Type 0} (xs : List A) (place i : ℕ) (x : A) → place ≢ i
-    → slice_get (slice_set xs place x) i ≡ slice_get xs i
-set_elsewhere [] place i x apart = refl
-set_elsewhere (y ∷ xs) zero zero x apart = absurd (apart refl)
-set_elsewhere (y ∷ xs) zero (suc i) x apart = refl
-set_elsewhere (y ∷ xs) (suc place) zero x apart = refl
-set_elsewhere (y ∷ xs) (suc place) (suc i) x apart = set_elsewhere xs place i x (λ e. apart (ap suc e))
-
 -- what does not depend on accumulated impulses still holds where they alone have changed
 pub still : (P : Row → Type 0) (rows after : List Row) → map unloaded after ≡ map unloaded rows
     → All (λ r. P (unloaded r)) rows → All (λ r. P (unloaded r)) after
-still P rows after same h = All-from_map P unloaded after (subst (All P) (sym same) (All-map P unloaded rows h))
+still P rows after same h = all_unmap P unloaded after (subst (All P) (sym same) (All-map P unloaded rows h))
 
 -- a new velocity and spin of the body at a place leave the rest of each body
 set_rest : (bodies : List BodyState) (place : ℕ) (m : Motion)
@@ -106,7 +92,7 @@ motion_away : (i : ℕ) (bodies : List BodyState) (side : Side) (m : Motion) →
     → slice_get (with_motion bodies side m) i ≡ slice_get bodies i
 unfolding with_motion
 motion_away i bodies Static m away = refl
-motion_away i bodies (Dynamic place) m away = set_elsewhere bodies place i _ (λ e. away (ap Dynamic e))
+motion_away i bodies (Dynamic place) m away = set_other bodies place i _ (λ e. away (ap Dynamic e))
 
 -- what passes keep
 module _ (step : Step) where

@@ -25,8 +25,9 @@ use Rattle.pf_step.specs.World.{World}
 use Rattle.pf_islands.proofs.ActiveRows.{HoldsWhere, all_rows, rows_in_order}
 use Rattle.pf_step.proofs.Apart.{groups_alone}
 use Rattle.pf_step.proofs.Commanding.{commands_length}
-use Rattle.pf_islands.proofs.Elements.{all_from, all_unmapped, same_element}
+use Rattle.pf_islands.proofs.Elements.{all_from, same_element}
 use Rattle.pf_step.proofs.Touching.{points_in_order}
+use Rattle.pf_cache.proofs.Editing.{all_unmap}
 
 -- some contact has the key of a contact point
 abbrev HasContact : List Contact → Touch → Type 0
@@ -95,7 +96,7 @@ module _ (s : Scene) (w : World) (payloads : List Payload) (paired : length w.bo
 
   have_contacts : All (λ r. HasContact contacts r.entry.touch) after
   have_contacts =
-      all_unmapped (HasContact contacts) (λ (r : Row). r.entry.touch) after
+      all_unmap (HasContact contacts) (λ (r : Row). r.entry.touch) after
       (subst (All (HasContact contacts)) (sym same_touches)
       (All-map (HasContact contacts) (λ (r : Row). r.entry.touch) batch.rows rows_have_contacts))
 

@@ -22,6 +22,7 @@ use Rattle.pf_step.specs.World.{World}
 use Rattle.pf_step.proofs.Changing.{notes_of_all}
 use Rattle.pf_step.proofs.Commanding.{commands_before, commands_length}
 use Rattle.pf_step.proofs.Following.{neither, numbers_more, stayed_after_commands, unlisted}
+use Rattle.pf_cache.proofs.Restoring.{or_right}
 
 -- a body that is the same in both is awake in both or in neither
 awake_alike : (bodies others : List BodyState) (k : ℕ) → slice_get bodies k ≡ slice_get others k
@@ -41,10 +42,6 @@ still_listed numbers before after same awake k wakes = by (has_body numbers k) r
 
 -- ---- more bodies
 
-or_true : (a b : Bool) → b ≡ true → (a || b) ≡ true
-or_true true b is = refl
-or_true false b is = is
-
 or_first : (a b : Bool) → a ≡ true → (a || b) ≡ true
 or_first true b is = refl
 or_first false b is = absurd (true≢false (sym is))
@@ -55,7 +52,7 @@ listed_first first second bodies awake k wakes =
 
 listed_second : (first second : List ℕ) (bodies : List BodyState) → ListsAwake second bodies → ListsAwake (first ++ second) bodies
 listed_second first second bodies awake k wakes =
-    list_any-append (λ m. m == k) first second ∙ or_true (has_body first k) (has_body second k) (awake k wakes)
+    list_any-append (λ m. m == k) first second ∙ or_right (has_body first k) (has_body second k) (awake k wakes)
 
 -- ---- bodies that are noted
 
@@ -79,7 +76,7 @@ noted_number bodies (n ∷ numbers) k within listed =
         → (has_body (numbers_of (change_of bodies n)) k || has_body (numbers_of (changes_of bodies numbers)) k) ≡ true
     by true same all others =
         or_first _ (has_body (numbers_of (changes_of bodies numbers)) k) (own (slice_get bodies n) refl (grind (arith, nat_tests)))
-    by false other rest others = or_true (has_body (numbers_of (change_of bodies n)) k) _ (others rest)
+    by false other rest others = or_right (has_body (numbers_of (change_of bodies n)) k) _ (others rest)
 
 -- those of islands are noted, where the islands have all awake ones
 pub islands_noted : (bodies : List BodyState) (islands : List Island)

@@ -6,7 +6,6 @@ use Rattle.std.proofs.lemmas.Int.{ints}
 use Rattle.std.proofs.lemmas.Simd.{map-map}
 use Rattle.std.specs.Prelude.{All}
 use Rattle.pf_num.specs.Fx.{product, root}
-use Rattle.pf_num.proofs.Monotone.{product-monotone}
 use Rattle.pf_num.proofs.Operations.{product-zero, product_comm}
 use Rattle.pf_shapes.specs.Body.{BodyState}
 use Rattle.pf_shapes.specs.Pair.{IsPairOf}
@@ -26,7 +25,6 @@ use Rattle.pf_solver.specs.Constraint.{friction_of}
 use Rattle.pf_solver.specs.Impulse.{friction_limit}
 use Rattle.pf_solver.specs.Solve.{solved_batch}
 use Rattle.pf_solver.proofs.Solved.{HasFriction, IsLimited, solved_friction, solved_limits, solved_touches}
-use Rattle.pf_islands.proofs.Elements.{all_unmapped}
 use Rattle.pf_step.specs.Commands.{after_commands}
 use Rattle.pf_step.specs.Laws.{IsWithinFriction}
 use Rattle.pf_islands.specs.Rows.{active_rows}
@@ -37,6 +35,8 @@ use Rattle.pf_islands.proofs.ActiveRows.{rows_in_order}
 use Rattle.pf_step.proofs.Commanding.{commands_length}
 use Rattle.pf_step.proofs.Lengths.{sim_length}
 use Rattle.pf_step.proofs.Touching.{points_in_order, points_of_bodies}
+use Rattle.pf_cache.proofs.Editing.{all_unmap}
+use Rattle.pf_manifold.proofs.BestAxis.{times-positive}
 
 -- ---- numbers
 
@@ -55,9 +55,6 @@ root_from_zero a = either_from_zero _ _
 friction_from_zero : (a b : ℤ) → pos 0 ≤ℤ friction_of a b
 unfolding friction_of
 friction_from_zero a b = root_from_zero (product a b)
-
-limit_from_zero : (f p : ℤ) → pos 0 ≤ℤ f → pos 0 ≤ℤ p → pos 0 ≤ℤ product f p
-limit_from_zero f p hf hp = subst (λ z. z ≤ℤ product f p) (product-zero p) (product-monotone (pos 0) f p hp hf)
 
 -- ---- keys of one rank
 
@@ -107,7 +104,7 @@ module _ (s : Scene) where
       let f = friction_of (fixture_at s r.entry.touch.a).friction (fixture_at s r.entry.touch.b).friction in
       let low : pos 0 ≤ℤ product r.constraint.friction p.normal =
       subst (λ (x : ℤ). pos 0 ≤ℤ product x p.normal) (sym is)
-      (limit_from_zero f p.normal (friction_from_zero (fixture_at s r.entry.touch.a).friction (fixture_at s r.entry.touch.b).friction) limited.normal) in
+      (times-positive f p.normal (friction_from_zero (fixture_at s r.entry.touch.a).friction (fixture_at s r.entry.touch.b).friction) limited.normal) in
       record {
         normal = limited.normal;
         friction = subst
@@ -178,7 +175,7 @@ same_order : (points : List Touch) (contacts : List Contact) → map (λ c. c.ke
 same_order points contacts same order = record {
   rising = subst (IsRising 0)
       (sym (map-map rank key_of points) ∙ ap (map rank) (sym same) ∙ map-map rank (λ (c : Contact). c.key) contacts) order.rising;
-  keys = all_unmapped IsKey (λ (c : Contact). c.key) contacts
+  keys = all_unmap IsKey (λ (c : Contact). c.key) contacts
       (subst (All IsKey) (sym same) (All-map IsKey key_of points order.keys));
 }
 
@@ -193,7 +190,7 @@ module _ (s : Scene) (scene : IsScene s) where
   solved_rows bodies rows order =
       let after = (solved_batch s bodies rows).rows in
       let keys : All (λ (r : Row). IsKey (key_of r.entry.touch)) after =
-      all_unmapped (λ (t : Touch). IsKey (key_of t)) (λ (r : Row). r.entry.touch) after
+      all_unmap (λ (t : Touch). IsKey (key_of t)) (λ (r : Row). r.entry.touch) after
       (subst (All (λ (t : Touch). IsKey (key_of t))) (sym (solved_touches s bodies rows)) order.keys) in
       let limits = solved_limits s bodies rows in
       let friction = solved_friction s bodies rows in
@@ -239,7 +236,7 @@ module _ (s : Scene) (scene : IsScene s) where
       let P : Key → Type 0 = λ k. IsPairOf (length s.fixtures) (record { a = k.a; b = k.b }) in
       let points : All (λ t. P (key_of t)) (touches_of_scene s bodies) =
       subst (λ n. All (IsTouchOf n) (touches_of_scene s bodies)) count (points_of_bodies s bodies count) in
-      all_unmapped P (λ (c : Contact). c.key) (step s w (payloads_at m tick)).contacts
+      all_unmap P (λ (c : Contact). c.key) (step s w (payloads_at m tick)).contacts
       (subst (All P) (sym (step_keys s w (payloads_at m tick))) (All-map P key_of (touches_of_scene s bodies) points))
 
   pub sim_limited : (m : CommandMap) (tick : ℕ) → All (Limited s) (sim s m tick).contacts

@@ -95,10 +95,6 @@ all_within bodies f (x ∷ xs) =
     All-append (λ (c : BodyChange). c.number < length bodies) (change_of bodies (f x)) (flat_map (λ y. change_of bodies (f y)) xs)
     (noted_within (f x) bodies (slice_get bodies (f x)) refl) (all_within bodies f xs)
 
-pub none_there : {X : Type 0} (xs : List X) → length xs ≡ 0 → xs ≡ []
-none_there [] none = refl
-none_there (x ∷ xs) none = absurd (omega (arith, none))
-
 -- an error that is not another is not that one of another call either
 pub other_error : {A B E : Type 0} (a b : E) → ◌≢◌ {A = Result A E} (Err a) (Err b) → ◌≢◌ {A = Result B E} (Err a) (Err b)
 other_error {A = A} {B = B} {E = E} a b differ same = differ (ap moved same)

@@ -23,11 +23,11 @@ use Rattle.pf_step.specs.Step.{step, touches_of_scene}
 use Rattle.pf_islands.proofs.ActiveRows.{HoldsWhere, all_rows}
 use Rattle.pf_step.proofs.Commanding.{commands_length}
 use Rattle.pf_step.proofs.Contacts.{same_bodies}
-use Rattle.pf_islands.proofs.Elements.{all_unmapped}
 use Rattle.pf_islands.proofs.Elements.{all_at, all_from, same_element}
 use Rattle.pf_step.proofs.Lengths.{sim_length}
 use Rattle.pf_step.proofs.Touching.{points_in_order, points_of_bodies}
 use Rattle.pf_step.proofs.Undisturbed.{contact_inactive, statics_sleep}
+use Rattle.pf_cache.proofs.Editing.{all_unmap}
 
 abbrev IsOther : ℕ → Touch → Type 0
 IsOther n t = rank (key_of t) ≢ n
@@ -109,7 +109,7 @@ module _ (s : Scene) (scene : IsScene s) (m : CommandMap) (tick : ℕ) where
       all_rows s awake (λ r. IsOther n r.entry.touch) points contacts
       (all_from (HoldsWhere s awake (λ r. IsOther n r.entry.touch)) points
       (λ j u there active place c. other_rank k j t u here inactive there active)) in
-      all_unmapped (IsOther n) (λ (r : Row). r.entry.touch) (solved_batch s awake rows).rows
+      all_unmap (IsOther n) (λ (r : Row). r.entry.touch) (solved_batch s awake rows).rows
       (subst (All (IsOther n)) (sym (solved_touches s awake rows))
       (All-map (IsOther n) (λ (r : Row). r.entry.touch) rows before))
 

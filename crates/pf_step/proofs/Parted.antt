@@ -27,10 +27,9 @@ use Rattle.pf_islands.specs.Settled.{AreSettled}
 use Rattle.pf_islands.specs.Sleep.{at_sleep, island_after_sleep}
 use Rattle.pf_islands.specs.Split.{Island, active_labels, is_active_label, island_of}
 use Rattle.pf_islands.proofs.Filled.{is_member}
-use Rattle.pf_islands.proofs.Elements.{all_unmapped}
 use Rattle.pf_islands.proofs.HomeAgain.{joined_is}
 use Rattle.pf_islands.proofs.Lone.{touched_named}
-use Rattle.pf_islands.proofs.LoneGroups.{has_touch, lone_members, rows_of_group}
+use Rattle.pf_islands.proofs.LoneGroups.{has_touch, lone_members, rows_of_group, negated}
 use Rattle.pf_islands.proofs.Looked.{any_found}
 use Rattle.pf_islands.proofs.SettledGroups.{chosen_rows, same_members, woken_settled}
 use Rattle.pf_islands.proofs.Starting.{groups_long}
@@ -53,6 +52,7 @@ use Rattle.pf_step.proofs.Joined.{active_group, any_mapped, awake_long, ended_at
 use Rattle.pf_step.proofs.Lengths.{world_after_length}
 use Rattle.pf_step.proofs.TickCases.{woken_at}
 use Rattle.pf_step.proofs.Touching.{points_of_bodies}
+use Rattle.pf_cache.proofs.Editing.{all_unmap}
 
 -- ---- elements of two parts
 
@@ -87,10 +87,6 @@ any_in P g p Q (x ∷ xs) all each some = by (p x) refl some (any_in P g p Q xs 
 nothing : (rows : List Row) → has_rows rows ≡ false → rows ≡ []
 nothing [] none = refl
 nothing (r ∷ rows) none = absurd (true≢false none)
-
-negated : (e : Bool) → not e ≡ true → e ≡ false
-negated true h = absurd (true≢false (sym h))
-negated false h = refl
 
 -- ---- an island of one body without contacts
 
@@ -305,7 +301,7 @@ module _ (s : Scene) (before : List Contact) (commanded : List BodyState) (count
     of_made : (P : Island → Type 0) → All P (map (island_after_tick s) found) → All P (map (island_after_tick s) made)
     of_made P all =
         All-map P (island_after_tick s) made
-        (All-filter (is_made lone) (λ i. P (island_after_tick s i)) found (all_unmapped P (island_after_tick s) found all))
+        (All-filter (is_made lone) (λ i. P (island_after_tick s i)) found (all_unmap P (island_after_tick s) found all))
 
     module _ (alone : List ℕ) (alone_are : alone ≡ lone_numbers lone found) where
       abbrev pub advanced : List BodyState

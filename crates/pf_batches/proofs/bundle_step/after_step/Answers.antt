@@ -5,8 +5,8 @@ use Rattle.pf_bundles.specs.LaneRow.{lane_row_in}
 use Rattle.pf_bundles.specs.Seats.{seat_state_at}
 use Rattle.pf_bundles.proofs.Seats.{taken_at}
 use Rattle.pf_batches.specs.Numbers.{lane_result}
-use Rattle.pf_batches.proofs.Bundles.{some_weaker}
 use Rattle.pf_batches.proofs.bundle_step.after_step.Goals as goal
+use Rattle.pf_cache.proofs.Filling.{if_some}
 
 pub returns-in-Some-clause-value : goal.returns-in-Some-clause-value
 returns-in-Some-clause-value g c = λ k seat at.
@@ -19,6 +19,6 @@ returns-in-Some-clause-value g c = λ k seat at.
 pub returns-in-None-clause-value : goal.returns-in-None-clause-value
 returns-in-None-clause-value g c =
     let own = c.seats-seats.ensures in
-    some_weaker c.after_exact.result
+    if_some c.after_exact.result
     (λ after h k seat at. h k seat (sym (taken_at c.seats-seats.result.now (lane_number k) own.first) ∙ ap (λ seats. slice_get seats (lane_number k)) own.seats ∙ at))
     c.after_exact.ensures.value

@@ -1,16 +1,10 @@
-use Rattle.std.proofs.Common.{◌≡◌, zero, suc, ◌≤◌, List, [], ◌∷◌, Some, length, refl, sym, ◌∙◌, arith}
+use Rattle.std.proofs.Common.{◌≡◌, zero, suc, List, [], ◌∷◌, Some, refl, sym, ◌∙◌, arith}
 use Rattle.pf_manifold.specs.ContactPoint.{ContactPoint}
 use Rattle.pf_manifold.specs.Collide.{collide}
 use Rattle.pf_manifold.specs.Laws.{HaveAscendingFeatures, HaveDifferentFeatures}
-use Rattle.pf_manifold.proofs.Features.{AreAscending, bodies_ascend}
+use Rattle.pf_manifold.proofs.Features.{AreAscending, bodies_ascend, few_points}
 use Rattle.pf_manifold.proofs.FeatureRanges.{circles_features, box_and_circle_features, boxes_features}
 use Rattle.pf_manifold.proofs.laws.features_ascend.Goals as goal
-
-few : (points : List ContactPoint) → AreAscending points → length points ≤ 2
-few [] h = omega arith
-few (p ∷ []) h = omega arith
-few (p ∷ (q ∷ [])) h = omega arith
-few (p ∷ (q ∷ (r ∷ rest))) h = absurd h
 
 ascending : (points : List ContactPoint) → AreAscending points → HaveAscendingFeatures points
 ascending [] h k within = absurd (omega arith)
@@ -39,7 +33,7 @@ different (x ∷ (y ∷ [])) h (suc (suc i)) j p q at_i at_j same = absurd (cc)
 different (x ∷ (y ∷ (z ∷ rest))) h i j p q at_i at_j same = absurd h
 
 pub returns-clause-few : goal.returns-clause-few
-returns-clause-few c = λ a b. few (collide a b) (bodies_ascend a b)
+returns-clause-few c = λ a b. few_points (collide a b) (bodies_ascend a b)
 
 pub returns-clause-ascending : goal.returns-clause-ascending
 returns-clause-ascending c = λ a b. ascending (collide a b) (bodies_ascend a b)

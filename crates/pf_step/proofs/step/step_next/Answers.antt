@@ -21,10 +21,11 @@ use Rattle.pf_step.specs.World.{World}
 use Rattle.pf_step.proofs.Commanding.{commands_length, commands_undone}
 use Rattle.pf_step.proofs.Awake.{listed_after_commands}
 use Rattle.pf_step.proofs.Contacts.{step_keys}
-use Rattle.pf_step.proofs.Following.{all_within, none_noted, none_there, other_error, stayed_after_commands, stayed_after_step}
+use Rattle.pf_step.proofs.Following.{all_within, none_noted, other_error, stayed_after_commands, stayed_after_step}
 use Rattle.pf_step.proofs.Lengths.{step_length}
 use Rattle.pf_step.proofs.step.step_next.Goals.{After-apply_all, In_ok-list_moved, In_ok-note_commanded}
 use Rattle.pf_step.proofs.step.step_next.Goals as goal
+use Rattle.pf_step.proofs.Empty.{none_long}
 
 -- the bodies once commands are applied
 commanded_are : (g : _) (c : After-apply_all g)
@@ -158,7 +159,7 @@ returns-in-Err-clause-no_memory g c none =
     let notes = commands_noted g (goal.at.returns-in-Err-clause-no_memory g c).In_ok-note_commanded in
     other_error _ _
     (c.in-Err.ensures.no_memory
-    (commanded ∙ none_there (after_commands s.fixtures w.bodies payloads) (commands_length s.fixtures w.bodies payloads ∙ ap length none))
+    (commanded ∙ none_long (after_commands s.fixtures w.bodies payloads) (commands_length s.fixtures w.bodies payloads ∙ ap length none))
     (notes ∙ none_noted w.bodies body_of payloads none))
 
 pub returns-in-Err-clause-step : goal.returns-in-Err-clause-step
