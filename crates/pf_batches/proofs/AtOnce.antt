@@ -9,14 +9,14 @@ use Rattle.pf_rows.specs.declared.row.Side.TheVariants.{Dynamic, Static}
 use Rattle.pf_rows.specs.Row.{Constraint, InverseMass, Row}
 use Rattle.pf_bundles.specs.Bundle.{Seat, lane_number}
 use Rattle.pf_bundles.specs.LaneRow.{IsHeldBy, LaneRow, arm_on, mass_on, no_lane_row}
-use Rattle.pf_bundles.specs.Numbers.{Numbers, Velocity}
+use Rattle.pf_bundles.specs.Unknowns.{Unknowns, Velocity}
 use Rattle.pf_solver.specs.FastPath.{IsArmFor}
 use Rattle.pf_solver.specs.Impulse.{ContactState}
 use Rattle.pf_solver.specs.Velocities.{Batch, Step}
 use Rattle.pf_batches.specs.Contact.{ContactLanes, seat_state_in, state_of}
 use Rattle.pf_bundles.specs.Seats.{SeatState}
-use Rattle.pf_batches.specs.Numbers.{AreNumbersOf, AreResults, AreRowsAtPlaces, AreSeatsOf, HoldEach, lane_result, motion_on, numbers_after, numbers_after_all, numbers_at_once, result_at, seat_of, seat_state_from, seats_of, state_at}
-use Rattle.pf_bundles.specs.Seats.{numbers_with, numbers_with_all, seat_state_at, velocity_at}
+use Rattle.pf_batches.specs.Unknowns.{AreUnknownsOf, AreResults, AreRowsAtPlaces, AreSeatsOf, HoldEach, lane_result, motion_on, unknowns_after, unknowns_after_all, unknowns_at_once, result_at, seat_of, seat_state_from, seats_of, state_at}
+use Rattle.pf_bundles.specs.Seats.{unknowns_with, unknowns_with_all, seat_state_at, velocity_at}
 use Rattle.pf_batches.proofs.Levels.{results_at_once}
 
 -- ---- one row
@@ -37,7 +37,7 @@ arm_held : (velocities : List Velocity) (mass : InverseMass) (side : Side) (arm 
 arm_held velocities mass Static arm = inr refl
 arm_held velocities mass (Dynamic place) arm = inl refl
 
-state_held : (n : Numbers) (p : ℕ) (r : Row) (l : LaneRow) → IsHeldBy l r
+state_held : (n : Unknowns) (p : ℕ) (r : Row) (l : LaneRow) → IsHeldBy l r
     → state_of l.first_mass l.second_mass (seat_state_at n (seat_of p r))
     ≡ state_at n r.first_mass r.second_mass (seat_of p r)
 state_held n p r l held =
@@ -54,7 +54,7 @@ IgnoresStaticArms step =
     → step (record own { first_arm = first; second_arm = second }) m ≡ step own m
 
 module _ (step : Step) (arms : IgnoresStaticArms step) where
-  result_held : (n : Numbers) (p : ℕ) (r : Row) (l : LaneRow) → IsHeldBy l r
+  result_held : (n : Unknowns) (p : ℕ) (r : Row) (l : LaneRow) → IsHeldBy l r
       → lane_result step l (seat_state_at n (seat_of p r)) ≡ seat_state_from (result_at step n p r)
   result_held n p r l held =
       let m = state_at n r.first_mass r.second_mass (seat_of p r) in
@@ -67,46 +67,46 @@ module _ (step : Step) (arms : IgnoresStaticArms step) where
 -- ---- the rows of a level
 
 -- what a step makes of each of these rows
-abbrev results : Step → Numbers → List ℕ → List Row → List ContactState
+abbrev results : Step → Unknowns → List ℕ → List Row → List ContactState
 results step n [] found = []
 results step n (p ∷ places) [] = []
 results step n (p ∷ places) (r ∷ found) = result_at step n p r ∷ results step n places found
 
-are_results : (step : Step) (n : Numbers) (rows : List Row) (places : List ℕ) (found : List Row)
+are_results : (step : Step) (n : Unknowns) (rows : List Row) (places : List ℕ) (found : List Row)
     → AreRowsAtPlaces rows places found → AreResults step n places found (results step n places found)
 are_results step n rows [] found at = refl
 are_results step n rows (p ∷ places) [] at = absurd at
 are_results step n rows (p ∷ places) (r ∷ found) at = (refl, are_results step n rows places found at.1)
 
--- the rows are stored by their numbers
-stored_by_numbers : (step : Step) (n now : Numbers) (places : List ℕ) (found : List Row)
-    → numbers_after_all (seats_of places found) (results step n places found) now
-    ≡ numbers_with_all (seats_of places found) (map seat_state_from (results step n places found)) now
-stored_by_numbers step n now [] found = refl
-stored_by_numbers step n now (p ∷ places) [] = refl
-stored_by_numbers step n now (p ∷ places) (r ∷ found) =
-    stored_by_numbers step n (numbers_after (seat_of p r) (result_at step n p r) now) places found
+-- the rows are stored by their unknowns
+stored_by_unknowns : (step : Step) (n now : Unknowns) (places : List ℕ) (found : List Row)
+    → unknowns_after_all (seats_of places found) (results step n places found) now
+    ≡ unknowns_with_all (seats_of places found) (map seat_state_from (results step n places found)) now
+stored_by_unknowns step n now [] found = refl
+stored_by_unknowns step n now (p ∷ places) [] = refl
+stored_by_unknowns step n now (p ∷ places) (r ∷ found) =
+    stored_by_unknowns step n (unknowns_after (seat_of p r) (result_at step n p r) now) places found
 
 -- what is stored are as many states as there are seats
-same_stored : (seats : List Seat) (xs ys : List SeatState) (n : Numbers)
+same_stored : (seats : List Seat) (xs ys : List SeatState) (n : Unknowns)
     → ((i : ℕ) (seat : Seat) → slice_get seats i ≡ Some seat → slice_get xs i ≡ slice_get ys i)
-    → numbers_with_all seats xs n ≡ numbers_with_all seats ys n
+    → unknowns_with_all seats xs n ≡ unknowns_with_all seats ys n
 same_stored [] xs ys n same = refl
 same_stored (seat ∷ seats) [] [] n same = refl
 same_stored (seat ∷ seats) [] (y ∷ ys) n same = absurd (none-some y (same 0 seat refl))
 same_stored (seat ∷ seats) (x ∷ xs) [] n same = absurd (none-some x (sym (same 0 seat refl)))
 same_stored (seat ∷ seats) (x ∷ xs) (y ∷ ys) n same =
-    ap (λ s. numbers_with_all seats xs (numbers_with seat s n)) (same_Some x y (same 0 seat refl))
-    ∙ same_stored seats xs ys (numbers_with seat y n) (λ i other at. same (suc i) other at)
+    ap (λ s. unknowns_with_all seats xs (unknowns_with seat s n)) (same_Some x y (same 0 seat refl))
+    ∙ same_stored seats xs ys (unknowns_with seat y n) (λ i other at. same (suc i) other at)
 
 -- the row of a seat, and what a step makes of it
-record IsRowOfSeat (step : Step) (n : Numbers) (rows : List Row) (seat : Seat) (o : Option SeatState) : Type 0 where
+record IsRowOfSeat (step : Step) (n : Unknowns) (rows : List Row) (seat : Seat) (o : Option SeatState) : Type 0 where
   row : Row
   stands : slice_get rows seat.place ≡ Some row
   own : seat ≡ seat_of seat.place row
   result : o ≡ Some (seat_state_from (result_at step n seat.place row))
 
-row_of_seat : (step : Step) (n : Numbers) (rows : List Row) (places : List ℕ) (found : List Row) (i : ℕ) (seat : Seat)
+row_of_seat : (step : Step) (n : Unknowns) (rows : List Row) (places : List ℕ) (found : List Row) (i : ℕ) (seat : Seat)
     → AreRowsAtPlaces rows places found → slice_get (seats_of places found) i ≡ Some seat
     → IsRowOfSeat step n rows seat (slice_get (map seat_state_from (results step n places found)) i)
 row_of_seat step n rows [] found i seat at here = absurd (none-some seat here)
@@ -137,16 +137,16 @@ lane_of seats (suc (suc (suc (suc i)))) seat after fits here =
     within (y ∷ xs) zero x at = omega arith
     within (y ∷ xs) (suc j) x at = let h = within xs j x at in omega (arith, h)
 
-module _ (step : Step) (arms : IgnoresStaticArms step) (b : Batch) (n : Numbers) (fit : AreNumbersOf b n) where
+module _ (step : Step) (arms : IgnoresStaticArms step) (b : Batch) (n : Unknowns) (fit : AreUnknownsOf b n) where
   pub bundle_at_once : (level : List ℕ) (lane_rows : List LaneRow) (seats : List Seat) (after : ContactLanes)
       → length seats ≤ 4 → AreSeatsOf b.rows level seats → HoldEach lane_rows b.rows
       → ((k : Lane) (seat : Seat) → slice_get seats (lane_number k) ≡ Some seat → seat_state_in k after
       ≡ lane_result step (slice_index_or lane_rows seat.place no_lane_row) (seat_state_at n seat))
-      → numbers_with_all seats (states_in after) n ≡ numbers_at_once level step b.rows n
+      → unknowns_with_all seats (states_in after) n ≡ unknowns_at_once level step b.rows n
   bundle_at_once level lane_rows seats after fits (found, at, seats_are) hold values =
-      ap (λ s. numbers_with_all s (states_in after) n) seats_are
+      ap (λ s. unknowns_with_all s (states_in after) n) seats_are
       ∙ same_stored (seats_of level found) (states_in after) (map seat_state_from (results step n level found)) n same
-      ∙ sym (stored_by_numbers step n n level found)
+      ∙ sym (stored_by_unknowns step n n level found)
       ∙ results_at_once step b n fit level found (results step n level found) at
       (are_results step n b.rows level found at)
     where

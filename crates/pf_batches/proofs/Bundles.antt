@@ -1,4 +1,4 @@
--- Rows that lanes hold: their numbers, and what a step makes of them.
+-- Rows that lanes hold: their unknowns, and what a step makes of them.
 use Rattle.std.proofs.Common.{◌≡◌, ◌∙◌, ℕ, zero, suc, ◌+◌, ◌<◌, ◌≤◌, length, length-set, take, ap₂, ◌∷◌, None, Option, Some, List, [], refl, sym, ap, subst, arith}
 use Rattle.std.proofs.lemmas.List.Elements.{All-cons, All-nil, All-head, All-set, All-tail, All-weaker}
 use Rattle.std.specs.Prelude.{All, IfSome, slice_get, slice_index_or}
@@ -10,17 +10,17 @@ use Rattle.pf_rows.specs.Row.{IsSide}
 use Rattle.pf_rows.specs.Small.{AreWithin, IsShort}
 use Rattle.pf_bundles.specs.Bundle.{Seat, lane_number}
 use Rattle.pf_bundles.specs.LaneRow.{lane_row_in}
-use Rattle.pf_bundles.specs.Numbers.{Numbers, Velocity, no_velocity}
+use Rattle.pf_bundles.specs.Unknowns.{Unknowns, Velocity, no_velocity}
 use Rattle.pf_bundles.specs.Prepared.{PreparedLanes, constraint_in}
 use Rattle.pf_solver.specs.Velocities.{Step}
 use Rattle.pf_batches.specs.Contact.{ContactLanes, IsSeatWithin, seat_state_in, state_in, state_of}
 use Rattle.pf_bundles.specs.Seats.{SeatState}
 use Rattle.pf_batches.specs.Limits.{AreGrown}
-use Rattle.pf_batches.specs.Numbers.{AreAllWithin, lane_result, seat_state_from}
-use Rattle.pf_bundles.specs.Seats.{AreAsMany, IsSeatIn, numbers_with, numbers_with_all, seat_state_or, velocity_at, with_velocity}
-use Rattle.pf_batches.proofs.Numbers.{with_velocity_length}
+use Rattle.pf_batches.specs.Unknowns.{AreAllWithin, lane_result, seat_state_from}
+use Rattle.pf_bundles.specs.Seats.{AreAsMany, IsSeatIn, unknowns_with, unknowns_with_all, seat_state_or, velocity_at, with_velocity}
+use Rattle.pf_batches.proofs.Unknowns.{with_velocity_length}
 
--- what a step makes of a contact in a lane is what it makes of the numbers of its row
+-- what a step makes of a contact in a lane is what it makes of the unknowns of its row
 pub result_in : (step : Step) (p : PreparedLanes) (k : Lane) (before after : ContactLanes) (s : SeatState)
     → state_in k p after ≡ step (constraint_in k p.constraint) (state_in k p before) → seat_state_in k before ≡ s
     → seat_state_in k after ≡ lane_result step (lane_row_in k p) s
@@ -45,7 +45,7 @@ velocity_within limit velocities (Dynamic place) all =
     read_holds (λ (v : Velocity). IsShort limit v.velocity) velocities place no_velocity all
     (record { x = omega arith; y = omega arith })
 
-pub seat_within : (limit : ℕ) (n : Numbers) (o : Option Seat) → AreAllWithin limit n → IsSeatWithin limit (seat_state_or n o)
+pub seat_within : (limit : ℕ) (n : Unknowns) (o : Option Seat) → AreAllWithin limit n → IsSeatWithin limit (seat_state_or n o)
 seat_within limit n None all = record {
   first = record { x = omega arith; y = omega arith };
   second = record { x = omega arith; y = omega arith };
@@ -75,7 +75,7 @@ grown_within limit by p k before after s read within grown =
       };
     }
 
-pub all_grown_within : (limit by : ℕ) (p : PreparedLanes) (n : Numbers) (seats : List Seat) (before : ContactLanes) (result : Option ContactLanes)
+pub all_grown_within : (limit by : ℕ) (p : PreparedLanes) (n : Unknowns) (seats : List Seat) (before : ContactLanes) (result : Option ContactLanes)
     → AreAllWithin limit n → ((k : Lane) → seat_state_in k before ≡ seat_state_or n (slice_get seats (lane_number k)))
     → IfSome result (λ after. (k : Lane) → AreGrown by (state_in k p before) (state_in k p after))
     → IfSome result (λ after. (k : Lane) → IsSeatWithin (limit + by) (seat_state_in k after))
@@ -87,7 +87,7 @@ all_grown_within limit by p n seats before (Some after) all read grown = λ k.
 -- ---- rows that are stored one after the other
 
 -- so do all numbers where a row is stored
-pub many_stay : (seat : Seat) (s : SeatState) (n : Numbers) → AreAsMany n (numbers_with seat s n)
+pub many_stay : (seat : Seat) (s : SeatState) (n : Unknowns) → AreAsMany n (unknowns_with seat s n)
 many_stay seat s n = record {
   velocities =
       with_velocity_length (with_velocity n.velocities seat.first s.first) seat.second s.second
@@ -95,56 +95,56 @@ many_stay seat s n = record {
   impulses = length-set n.impulses seat.place s.impulses;
 }
 
-row_next : (seats : List Seat) (states : List SeatState) (n : Numbers) (k : ℕ) (d : Seat) (e : SeatState)
+row_next : (seats : List Seat) (states : List SeatState) (n : Unknowns) (k : ℕ) (d : Seat) (e : SeatState)
     → k < length seats → k < length states
-    → numbers_with_all (take (suc k) seats) (take (suc k) states) n
-    ≡ numbers_with (slice_index_or seats k d) (slice_index_or states k e) (numbers_with_all (take k seats) (take k states) n)
+    → unknowns_with_all (take (suc k) seats) (take (suc k) states) n
+    ≡ unknowns_with (slice_index_or seats k d) (slice_index_or states k e) (unknowns_with_all (take k seats) (take k states) n)
 row_next [] states n k d e here there = absurd (omega (arith, here))
 row_next (x ∷ seats) [] n k d e here there = absurd (omega (arith, there))
 row_next (x ∷ seats) (y ∷ states) n zero d e here there = refl
 row_next (x ∷ seats) (y ∷ states) n (suc k) d e here there =
-    row_next seats states (numbers_with x y n) k d e (omega (arith, here)) (omega (arith, there))
+    row_next seats states (unknowns_with x y n) k d e (omega (arith, here)) (omega (arith, there))
 
 -- a row more
-pub row_more : (seats : List Seat) (states : List SeatState) (n now : Numbers) (k : ℕ) (seat : Seat) (s : SeatState)
+pub row_more : (seats : List Seat) (states : List SeatState) (n now : Unknowns) (k : ℕ) (seat : Seat) (s : SeatState)
     → k < length seats → k < length states → seat ≡ slice_index_or seats k seat → s ≡ slice_index_or states k s
-    → now ≡ numbers_with_all (take k seats) (take k states) n
-    → numbers_with seat s now ≡ numbers_with_all (take (k + 1) seats) (take (k + 1) states) n
+    → now ≡ unknowns_with_all (take k seats) (take k states) n
+    → unknowns_with seat s now ≡ unknowns_with_all (take (k + 1) seats) (take (k + 1) states) n
 row_more seats states n now k seat s here there seat_is s_is now_is =
     let more : k + 1 ≡ suc k = omega arith in
-    ap (numbers_with seat s) now_is
-    ∙ ap₂ (λ x y. numbers_with x y (numbers_with_all (take k seats) (take k states) n)) seat_is s_is
+    ap (unknowns_with seat s) now_is
+    ∙ ap₂ (λ x y. unknowns_with x y (unknowns_with_all (take k seats) (take k states) n)) seat_is s_is
     ∙ sym (row_next seats states n k seat s here there)
-    ∙ ap (λ j. numbers_with_all (take j seats) (take j states) n) (sym more)
+    ∙ ap (λ j. unknowns_with_all (take j seats) (take j states) n) (sym more)
 
 -- all rows
-pub rows_whole : (seats : List Seat) (states : List SeatState) (n : Numbers) (k : ℕ) → length seats ≤ k → k ≤ length states
-    → numbers_with_all (take k seats) (take k states) n ≡ numbers_with_all seats states n
+pub rows_whole : (seats : List Seat) (states : List SeatState) (n : Unknowns) (k : ℕ) → length seats ≤ k → k ≤ length states
+    → unknowns_with_all (take k seats) (take k states) n ≡ unknowns_with_all seats states n
 rows_whole [] states n zero over within = refl
 rows_whole [] states n (suc k) over within = refl
 rows_whole (x ∷ seats) [] n zero over within = refl
 rows_whole (x ∷ seats) [] n (suc k) over within = absurd (omega (arith, within))
 rows_whole (x ∷ seats) (y ∷ states) n zero over within = absurd (omega (arith, over))
 rows_whole (x ∷ seats) (y ∷ states) n (suc k) over within =
-    rows_whole seats states (numbers_with x y n) k (omega (arith, over)) (omega (arith, within))
+    rows_whole seats states (unknowns_with x y n) k (omega (arith, over)) (omega (arith, within))
 
 -- a lane without a row
-pub row_none : (seats : List Seat) (states : List SeatState) (n : Numbers) (k : ℕ) → length seats ≤ k → k < length states
-    → numbers_with_all (take k seats) (take k states) n
-    ≡ numbers_with_all (take (k + 1) seats) (take (k + 1) states) n
+pub row_none : (seats : List Seat) (states : List SeatState) (n : Unknowns) (k : ℕ) → length seats ≤ k → k < length states
+    → unknowns_with_all (take k seats) (take k states) n
+    ≡ unknowns_with_all (take (k + 1) seats) (take (k + 1) states) n
 row_none seats states n k over within =
     rows_whole seats states n k over (omega (arith, within))
     ∙ sym (rows_whole seats states n (k + 1) (omega (arith, over)) (omega (arith, within)))
 
 -- numbers of a row are there as long as there are as many
-seat_stays : (before after : Numbers) (seat : Seat) → AreAsMany before after → IsSeatIn before seat → IsSeatIn after seat
+seat_stays : (before after : Unknowns) (seat : Seat) → AreAsMany before after → IsSeatIn before seat → IsSeatIn after seat
 seat_stays before after seat many h = record {
   place = omega (arith, many.impulses, h.place);
   first = subst (λ count. IsSide count seat.first) (sym many.velocities) h.first;
   second = subst (λ count. IsSide count seat.second) (sym many.velocities) h.second;
 }
 
-pub seats_stay : (before after : Numbers) (seats : List Seat) → AreAsMany before after → All (IsSeatIn before) seats
+pub seats_stay : (before after : Unknowns) (seats : List Seat) → AreAsMany before after → All (IsSeatIn before) seats
     → All (IsSeatIn after) seats
 seats_stay before after seats many all = All-weaker (IsSeatIn before) (IsSeatIn after) (λ seat. seat_stays before after seat many) seats all
 
@@ -156,8 +156,8 @@ velocities_within limit velocities Static v all here = all
 velocities_within limit velocities (Dynamic place) v all here =
     All-set (λ (v : Velocity). IsShort limit v.velocity) velocities place v here all
 
-row_within : (limit : ℕ) (seat : Seat) (s : SeatState) (n : Numbers) → AreAllWithin limit n → IsSeatWithin limit s
-    → AreAllWithin limit (numbers_with seat s n)
+row_within : (limit : ℕ) (seat : Seat) (s : SeatState) (n : Unknowns) → AreAllWithin limit n → IsSeatWithin limit s
+    → AreAllWithin limit (unknowns_with seat s n)
 row_within limit seat s n all here = record {
   velocities =
       velocities_within limit (with_velocity n.velocities seat.first s.first) seat.second s.second
@@ -165,16 +165,16 @@ row_within limit seat s n all here = record {
   impulses = All-set (AreWithin limit) n.impulses seat.place s.impulses here.impulses all.impulses;
 }
 
-pub rows_within : (limit : ℕ) (seats : List Seat) (states : List SeatState) (n : Numbers) → AreAllWithin limit n
-    → All (IsSeatWithin limit) states → AreAllWithin limit (numbers_with_all seats states n)
+pub rows_within : (limit : ℕ) (seats : List Seat) (states : List SeatState) (n : Unknowns) → AreAllWithin limit n
+    → All (IsSeatWithin limit) states → AreAllWithin limit (unknowns_with_all seats states n)
 rows_within limit [] states n all here = all
 rows_within limit (seat ∷ seats) [] n all here = all
 rows_within limit (seat ∷ seats) (s ∷ states) n all here =
-    rows_within limit seats states (numbers_with seat s n)
+    rows_within limit seats states (unknowns_with seat s n)
     (row_within limit seat s n all (All-head (IsSeatWithin limit) s states here)) (All-tail (IsSeatWithin limit) s states here)
 
 -- a greater limit
-pub all_within_more : (limit more : ℕ) (n : Numbers) → limit ≤ more → AreAllWithin limit n → AreAllWithin more n
+pub all_within_more : (limit more : ℕ) (n : Unknowns) → limit ≤ more → AreAllWithin limit n → AreAllWithin more n
 all_within_more limit more n h all = record {
   velocities =
       All-weaker (λ (v : Velocity). IsShort limit v.velocity) (λ (v : Velocity). IsShort more v.velocity)

@@ -1,4 +1,4 @@
--- Levels that are solved on the numbers of a batch are solved as those of the batch.
+-- Levels that are solved on the unknowns of a batch are solved as those of the batch.
 use Rattle.std.proofs.Common.{◌≡◌, ◌∙◌, ℕ, zero, suc, ◌+◌, ◌-◌, ◌<◌, None, Option, Some, List, [], ◌∷◌, drop, length, map, take, refl, sym, ap, subst, arith}
 use Rattle.std.proofs.lemmas.List.{take_more}
 use Rattle.std.proofs.lemmas.List.Elements.{All-head, All-tail}
@@ -16,10 +16,10 @@ use Rattle.pf_solver.specs.Velocities.{Batch, Step, bodies_with, pass, passes, r
 use Rattle.pf_solver.proofs.Levels.{pairs_passed, passes_by_levels}
 use Rattle.pf_solver.proofs.Overlap.{passes_by_overlap}
 use Rattle.pf_solver.proofs.Passes.{passes_more, passes_none}
-use Rattle.pf_batches.specs.Numbers.{AreNumbersAfter, AreNumbersOf, AreResults, AreRowsAtPlaces, batch_with_numbers, numbers_after, numbers_after_all, numbers_at_once, numbers_in_levels, batch_numbers, numbers_where, result_at, seat_of, seats_of}
-use Rattle.pf_bundles.specs.Numbers.{Numbers}
+use Rattle.pf_batches.specs.Unknowns.{AreUnknownsAfter, AreUnknownsOf, AreResults, AreRowsAtPlaces, batch_with_unknowns, unknowns_after, unknowns_after_all, unknowns_at_once, unknowns_in_levels, batch_unknowns, unknowns_where, result_at, seat_of, seats_of}
+use Rattle.pf_bundles.specs.Unknowns.{Unknowns}
 use Rattle.pf_bundles.specs.Bundle.{Seat}
-use Rattle.pf_batches.proofs.Numbers.{fit_after, impulses_none, numbers_fit, own_numbers, pairs_loaded, row_read, row_stored, state_read}
+use Rattle.pf_batches.proofs.Unknowns.{fit_after, impulses_none, unknowns_fit, own_unknowns, pairs_loaded, row_read, row_stored, state_read}
 
 -- ---- rows and results by their places in the level
 
@@ -36,7 +36,7 @@ rows_from_each rows (p ∷ places) (r ∷ found) long each = (
 )
 
 -- what a step makes of rows is what it makes of each
-pub results_from_each : (step : Step) (n : Numbers) (places : List ℕ) (found : List Row) (states : List ContactState)
+pub results_from_each : (step : Step) (n : Unknowns) (places : List ℕ) (found : List Row) (states : List ContactState)
     → length found ≡ length places → length states ≡ length places
     → ((k p : ℕ) (r : Row) (m : ContactState) → slice_get places k ≡ Some p → slice_get found k ≡ Some r
     → slice_get states k ≡ Some m → m ≡ result_at step n p r)
@@ -61,40 +61,40 @@ rows_at_places rows (p ∷ places) d within = (
 )
 
 -- after one more row is stored
-stored_next : (seats : List Seat) (states : List ContactState) (n : Numbers) (k : ℕ) (seat : Seat) (m : ContactState)
+stored_next : (seats : List Seat) (states : List ContactState) (n : Unknowns) (k : ℕ) (seat : Seat) (m : ContactState)
     → slice_get seats k ≡ Some seat → slice_get states k ≡ Some m
-    → numbers_after_all (take (suc k) seats) (take (suc k) states) n
-    ≡ numbers_after seat m (numbers_after_all (take k seats) (take k states) n)
+    → unknowns_after_all (take (suc k) seats) (take (suc k) states) n
+    ≡ unknowns_after seat m (unknowns_after_all (take k seats) (take k states) n)
 stored_next [] states n k seat m here there = absurd cc
 stored_next (s ∷ seats) [] n k seat m here there = absurd cc
 stored_next (s ∷ seats) (x ∷ states) n zero seat m here there =
     let same_seat : s ≡ seat = cc in
     let same_state : x ≡ m = cc in
-    ap (λ y. numbers_after y x n) same_seat ∙ ap (λ y. numbers_after seat y n) same_state
+    ap (λ y. unknowns_after y x n) same_seat ∙ ap (λ y. unknowns_after seat y n) same_state
 stored_next (s ∷ seats) (x ∷ states) n (suc k) seat m here there =
-    stored_next seats states (numbers_after s x n) k seat m here there
+    stored_next seats states (unknowns_after s x n) k seat m here there
 
 -- a step of a loop that stores rows one after the other
-pub stored_more : (seats : List Seat) (states : List ContactState) (n : Numbers) (k : ℕ) (seat : Seat) (m : ContactState)
+pub stored_more : (seats : List Seat) (states : List ContactState) (n : Unknowns) (k : ℕ) (seat : Seat) (m : ContactState)
     → slice_get seats k ≡ Some seat → slice_get states k ≡ Some m
-    → numbers_after_all (take (k + 1) seats) (take (k + 1) states) n
-    ≡ numbers_after seat m (numbers_after_all (take k seats) (take k states) n)
+    → unknowns_after_all (take (k + 1) seats) (take (k + 1) states) n
+    ≡ unknowns_after seat m (unknowns_after_all (take k seats) (take k states) n)
 stored_more seats states n k seat m here there =
     let more : k + 1 ≡ suc k = omega arith in
-    ap (λ j. numbers_after_all (take j seats) (take j states) n) more ∙ stored_next seats states n k seat m here there
+    ap (λ j. unknowns_after_all (take j seats) (take j states) n) more ∙ stored_next seats states n k seat m here there
 
 -- ---- one level
 
 module _ (step : Step) (b : Batch) where
-  module _ (n : Numbers) (fit : AreNumbersOf b n) where
-    -- one row of a level is stored in the numbers as in the batch
-    stored_as_row : (now : Numbers) (p : ℕ) (o : Option Row) → AreNumbersOf b now → slice_get b.rows p ≡ o
-        → batch_with_numbers (numbers_where step n now p o) b
-        ≡ stored_where step (batch_with_numbers n b).bodies (batch_with_numbers now b) p (slice_get (batch_with_numbers n b).rows p)
+  module _ (n : Unknowns) (fit : AreUnknownsOf b n) where
+    -- one row of a level is stored in the unknowns as in the batch
+    stored_as_row : (now : Unknowns) (p : ℕ) (o : Option Row) → AreUnknownsOf b now → slice_get b.rows p ≡ o
+        → batch_with_unknowns (unknowns_where step n now p o) b
+        ≡ stored_where step (batch_with_unknowns n b).bodies (batch_with_unknowns now b) p (slice_get (batch_with_unknowns n b).rows p)
     stored_as_row now p None still at =
-        ap (stored_where step (batch_with_numbers n b).bodies (batch_with_numbers now b) p) (sym (impulses_none n.impulses b.rows p at))
+        ap (stored_where step (batch_with_unknowns n b).bodies (batch_with_unknowns now b) p) (sym (impulses_none n.impulses b.rows p at))
     stored_as_row now p (Some r) still at =
-        let then = batch_with_numbers now b in
+        let then = batch_with_unknowns now b in
         row_stored b now still p r (result_at step n p r) at
         ∙ ap
         (λ (s : ContactState).
@@ -103,131 +103,131 @@ module _ (step : Step) (b : Batch) where
           rows = slice_set then.rows p (row_with (step r.constraint s) r);
         })
         (sym (state_read b n fit p r))
-        ∙ ap (stored_where step (batch_with_numbers n b).bodies then p) (sym (row_read b n fit p r at))
+        ∙ ap (stored_where step (batch_with_unknowns n b).bodies then p) (sym (row_read b n fit p r at))
 
-    -- there are still as many numbers
-    fit_where : (now : Numbers) (p : ℕ) (o : Option Row) → AreNumbersOf b now → AreNumbersOf b (numbers_where step n now p o)
+    -- there are still as many unknowns
+    fit_where : (now : Unknowns) (p : ℕ) (o : Option Row) → AreUnknownsOf b now → AreUnknownsOf b (unknowns_where step n now p o)
     fit_where now p None still = still
     fit_where now p (Some r) still = fit_after b now still (seat_of p r) (result_at step n p r)
 
     -- and so after the rest of the level
-    stored_as_level : (level : List ℕ) (now : Numbers) → AreNumbersOf b now
-        → batch_with_numbers (fold (λ now p. numbers_where step n now p (slice_get b.rows p)) now level) b
-        ≡ fold (λ now p. stored_where step (batch_with_numbers n b).bodies now p (slice_get (batch_with_numbers n b).rows p))
-        (batch_with_numbers now b) level
+    stored_as_level : (level : List ℕ) (now : Unknowns) → AreUnknownsOf b now
+        → batch_with_unknowns (fold (λ now p. unknowns_where step n now p (slice_get b.rows p)) now level) b
+        ≡ fold (λ now p. stored_where step (batch_with_unknowns n b).bodies now p (slice_get (batch_with_unknowns n b).rows p))
+        (batch_with_unknowns now b) level
     stored_as_level [] now still = refl
     stored_as_level (p ∷ level) now still =
         let o = slice_get b.rows p in
-        stored_as_level level (numbers_where step n now p o) (fit_where now p o still)
+        stored_as_level level (unknowns_where step n now p o) (fit_where now p o still)
         ∙ ap
-        (λ x. fold (λ (x : Batch) q. stored_where step (batch_with_numbers n b).bodies x q (slice_get (batch_with_numbers n b).rows q)) x level)
+        (λ x. fold (λ (x : Batch) q. stored_where step (batch_with_unknowns n b).bodies x q (slice_get (batch_with_unknowns n b).rows q)) x level)
         (stored_as_row now p o still refl)
 
     -- and so along a level
-    fit_along : (level : List ℕ) (now : Numbers) → AreNumbersOf b now
-        → AreNumbersOf b (fold (λ now p. numbers_where step n now p (slice_get b.rows p)) now level)
+    fit_along : (level : List ℕ) (now : Unknowns) → AreUnknownsOf b now
+        → AreUnknownsOf b (fold (λ now p. unknowns_where step n now p (slice_get b.rows p)) now level)
     fit_along [] now still = still
     fit_along (p ∷ level) now still =
-        let o = slice_get b.rows p in fit_along level (numbers_where step n now p o) (fit_where now p o still)
+        let o = slice_get b.rows p in fit_along level (unknowns_where step n now p o) (fit_where now p o still)
 
     -- what became of the rows of a level is stored one after the other
-    stored_along : (level : List ℕ) (found : List Row) (states : List ContactState) (now : Numbers)
+    stored_along : (level : List ℕ) (found : List Row) (states : List ContactState) (now : Unknowns)
         → AreRowsAtPlaces b.rows level found → AreResults step n level found states
-        → numbers_after_all (seats_of level found) states now
-        ≡ fold (λ now p. numbers_where step n now p (slice_get b.rows p)) now level
+        → unknowns_after_all (seats_of level found) states now
+        ≡ fold (λ now p. unknowns_where step n now p (slice_get b.rows p)) now level
     stored_along [] found states now rows results = refl
     stored_along (p ∷ level) [] states now rows results = absurd rows
     stored_along (p ∷ level) (r ∷ found) [] now rows results = absurd results
     stored_along (p ∷ level) (r ∷ found) (m ∷ states) now rows results =
-        let next = λ (o : Option Row). numbers_where step n now p o in
-        stored_along level found states (numbers_after (seat_of p r) m now) rows.1 results.1
-        ∙ ap (λ x. fold (λ now q. numbers_where step n now q (slice_get b.rows q)) (numbers_after (seat_of p r) x now) level) results.0
-        ∙ ap (λ o. fold (λ now q. numbers_where step n now q (slice_get b.rows q)) (next o) level) (sym rows.0)
+        let next = λ (o : Option Row). unknowns_where step n now p o in
+        stored_along level found states (unknowns_after (seat_of p r) m now) rows.1 results.1
+        ∙ ap (λ x. fold (λ now q. unknowns_where step n now q (slice_get b.rows q)) (unknowns_after (seat_of p r) x now) level) results.0
+        ∙ ap (λ o. fold (λ now q. unknowns_where step n now q (slice_get b.rows q)) (next o) level) (sym rows.0)
 
-    -- a level that is solved at once on the numbers is solved at once in the batch
-    pub level_on_numbers : (level : List ℕ)
-        → batch_with_numbers (numbers_at_once level step b.rows n) b ≡ solved_at_once level step (batch_with_numbers n b)
-    level_on_numbers level = stored_as_level level n fit
+    -- a level that is solved at once on the unknowns is solved at once in the batch
+    pub level_on_unknowns : (level : List ℕ)
+        → batch_with_unknowns (unknowns_at_once level step b.rows n) b ≡ solved_at_once level step (batch_with_unknowns n b)
+    level_on_unknowns level = stored_as_level level n fit
 
-    -- there are still as many numbers after a level
-    pub fit_at_once : (level : List ℕ) → AreNumbersOf b (numbers_at_once level step b.rows n)
+    -- there are still as many unknowns after a level
+    pub fit_at_once : (level : List ℕ) → AreUnknownsOf b (unknowns_at_once level step b.rows n)
     fit_at_once level = fit_along level n fit
 
     module _ (level : List ℕ) (found : List Row) (states : List ContactState) (rows : AreRowsAtPlaces b.rows level found)
         (results : AreResults step n level found states) where
       -- what became of the rows of a level, stored one after the other, is the level at once
-      pub results_at_once : numbers_after_all (seats_of level found) states n ≡ numbers_at_once level step b.rows n
+      pub results_at_once : unknowns_after_all (seats_of level found) states n ≡ unknowns_at_once level step b.rows n
       results_at_once = stored_along level found states n rows results
 
       -- a batch with the results of a level is the batch with the level solved at once
-      pub level_stored : batch_with_numbers (numbers_after_all (seats_of level found) states n) b
-          ≡ solved_at_once level step (batch_with_numbers n b)
-      level_stored = ap (λ x. batch_with_numbers x b) results_at_once ∙ level_on_numbers level
+      pub level_stored : batch_with_unknowns (unknowns_after_all (seats_of level found) states n) b
+          ≡ solved_at_once level step (batch_with_unknowns n b)
+      level_stored = ap (λ x. batch_with_unknowns x b) results_at_once ∙ level_on_unknowns level
 
-      -- there are still as many numbers after the results of a level
-      pub fit_after_all : AreNumbersOf b (numbers_after_all (seats_of level found) states n)
-      fit_after_all = subst (AreNumbersOf b) (sym results_at_once) (fit_at_once level)
+      -- there are still as many unknowns after the results of a level
+      pub fit_after_all : AreUnknownsOf b (unknowns_after_all (seats_of level found) states n)
+      fit_after_all = subst (AreUnknownsOf b) (sym results_at_once) (fit_at_once level)
 
 -- ---- levels one after the other
 
 module _ (step : Step) (b : Batch) where
-  -- levels one after the other on the numbers are those of the batch
-  levels_on_numbers : (some : List (List ℕ)) (n : Numbers) → AreNumbersOf b n
-      → batch_with_numbers (fold (λ now level. numbers_at_once level step b.rows now) n some) b
-      ≡ solved_by_levels some step (batch_with_numbers n b)
-  levels_on_numbers [] n fit = refl
-  levels_on_numbers (g ∷ some) n fit =
-      levels_on_numbers some (numbers_at_once g step b.rows n) (fit_at_once step b n fit g)
-      ∙ ap (solved_by_levels some step) (level_on_numbers step b n fit g)
+  -- levels one after the other on the unknowns are those of the batch
+  levels_on_unknowns : (some : List (List ℕ)) (n : Unknowns) → AreUnknownsOf b n
+      → batch_with_unknowns (fold (λ now level. unknowns_at_once level step b.rows now) n some) b
+      ≡ solved_by_levels some step (batch_with_unknowns n b)
+  levels_on_unknowns [] n fit = refl
+  levels_on_unknowns (g ∷ some) n fit =
+      levels_on_unknowns some (unknowns_at_once g step b.rows n) (fit_at_once step b n fit g)
+      ∙ ap (solved_by_levels some step) (level_on_unknowns step b n fit g)
 
-  -- there are still as many numbers
-  fit_by_levels : (some : List (List ℕ)) (n : Numbers) → AreNumbersOf b n
-      → AreNumbersOf b (fold (λ now level. numbers_at_once level step b.rows now) n some)
+  -- there are still as many unknowns
+  fit_by_levels : (some : List (List ℕ)) (n : Unknowns) → AreUnknownsOf b n
+      → AreUnknownsOf b (fold (λ now level. unknowns_at_once level step b.rows now) n some)
   fit_by_levels [] n fit = fit
-  fit_by_levels (g ∷ some) n fit = fit_by_levels some (numbers_at_once g step b.rows n) (fit_at_once step b n fit g)
+  fit_by_levels (g ∷ some) n fit = fit_by_levels some (unknowns_at_once g step b.rows n) (fit_at_once step b n fit g)
 
   -- after one level more
-  pub level_more : (levels : List (List ℕ)) (after : Batch) (i : ℕ) (d : List ℕ) (now : Numbers) → i < length levels
-      → AreNumbersAfter b (solved_by_levels (take i levels) step after) now
-      → AreNumbersAfter b (solved_by_levels (take (i + 1) levels) step after) (numbers_at_once (slice_index_or levels i d) step b.rows now)
+  pub level_more : (levels : List (List ℕ)) (after : Batch) (i : ℕ) (d : List ℕ) (now : Unknowns) → i < length levels
+      → AreUnknownsAfter b (solved_by_levels (take i levels) step after) now
+      → AreUnknownsAfter b (solved_by_levels (take (i + 1) levels) step after) (unknowns_at_once (slice_index_or levels i d) step b.rows now)
   level_more levels after i d now within done =
       let f = λ (x : Batch) (level : List ℕ). solved_at_once level step x in
       let level = slice_index_or levels i d in
       record {
-        numbers = fit_at_once step b now done.numbers level;
+        unknowns = fit_at_once step b now done.unknowns level;
         batch =
-            level_on_numbers step b now done.numbers level
+            level_on_unknowns step b now done.unknowns level
             ∙ ap (solved_at_once level step) done.batch
             ∙ sym (ap (fold f after) (take_more levels i d within) ∙ fold-append f after (take i levels) (level ∷ []));
       }
 
-  -- so many passes on the numbers
-  passes_on_numbers : (k : ℕ) (levels : List (List ℕ)) (n : Numbers) → AreNumbersOf b n
-      → AreNumbersAfter b (passes_in_levels k levels step (batch_with_numbers n b)) (numbers_in_levels k levels step b.rows n)
-  passes_on_numbers zero levels n fit = record { numbers = fit; batch = refl }
-  passes_on_numbers (suc k) levels n fit =
-      let before = numbers_in_levels k levels step b.rows n in
-      let done = passes_on_numbers k levels n fit in
+  -- so many passes on the unknowns
+  passes_on_unknowns : (k : ℕ) (levels : List (List ℕ)) (n : Unknowns) → AreUnknownsOf b n
+      → AreUnknownsAfter b (passes_in_levels k levels step (batch_with_unknowns n b)) (unknowns_in_levels k levels step b.rows n)
+  passes_on_unknowns zero levels n fit = record { unknowns = fit; batch = refl }
+  passes_on_unknowns (suc k) levels n fit =
+      let before = unknowns_in_levels k levels step b.rows n in
+      let done = passes_on_unknowns k levels n fit in
       record {
-        numbers = fit_by_levels levels before done.numbers;
-        batch = levels_on_numbers levels before done.numbers ∙ ap (solved_by_levels levels step) done.batch;
+        unknowns = fit_by_levels levels before done.unknowns;
+        batch = levels_on_unknowns levels before done.unknowns ∙ ap (solved_by_levels levels step) done.batch;
       }
 
   -- so many passes level by level are as many along the list of rows
-  pub passes_of_numbers : (k : ℕ) (levels : List (List ℕ)) (n : Numbers) → AreNumbersOf b n → AreLevelsOf b levels
-      → batch_with_numbers (numbers_in_levels k levels step b.rows n) b ≡ passes k step (batch_with_numbers n b)
-  passes_of_numbers k levels n fit of =
-      (passes_on_numbers k levels n fit).batch
-      ∙ passes_by_levels step k (batch_with_numbers n b) levels
+  pub passes_of_unknowns : (k : ℕ) (levels : List (List ℕ)) (n : Unknowns) → AreUnknownsOf b n → AreLevelsOf b levels
+      → batch_with_unknowns (unknowns_in_levels k levels step b.rows n) b ≡ passes k step (batch_with_unknowns n b)
+  passes_of_unknowns k levels n fit of =
+      (passes_on_unknowns k levels n fit).batch
+      ∙ passes_by_levels step k (batch_with_unknowns n b) levels
       (subst (λ pairs. AreLevels pairs levels) (sym (pairs_loaded n.impulses b.rows)) of)
 
 -- ---- the velocity phase
 
--- the numbers of a batch before its velocity phase
-pub own_start : (b : Batch) (now : Numbers) → now ≡ batch_numbers b → AreNumbersAfter b b now
+-- the unknowns of a batch before its velocity phase
+pub own_start : (b : Batch) (now : Unknowns) → now ≡ batch_unknowns b → AreUnknownsAfter b b now
 own_start b now same = record {
-  numbers = subst (AreNumbersOf b) (sym same) (numbers_fit b);
-  batch = ap (λ n. batch_with_numbers n b) same ∙ own_numbers b;
+  unknowns = subst (AreUnknownsOf b) (sym same) (unknowns_fit b);
+  batch = ap (λ n. batch_with_unknowns n b) same ∙ own_unknowns b;
 }
 
 -- a warm start level by level, and rounds that overlap, are the velocity phase

@@ -3,7 +3,7 @@ pub mod Sums
 pub mod Pushes
 pub mod Additions
 pub mod Steps
-pub mod Numbers
+pub mod Unknowns
 pub mod Levels
 pub mod Bundles
 pub mod AtOnce

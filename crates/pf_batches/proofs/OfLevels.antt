@@ -14,15 +14,15 @@ use Rattle.pf_levels.proofs.InOrder.{numbers_within}
 use Rattle.pf_bundles.proofs.Bundles.{as_many}
 use Rattle.pf_bundles.specs.Bundle.{AreBundlesOf, Bundle, IsBundleOf, Seat, lane_number, lane_row_or, seat_at}
 use Rattle.pf_bundles.specs.LaneRow.{IsHeldBy, LaneRow}
-use Rattle.pf_bundles.specs.Numbers.{Numbers}
+use Rattle.pf_bundles.specs.Unknowns.{Unknowns}
 use Rattle.pf_solver.specs.Beside.{IsBatch}
 use Rattle.pf_solver.specs.Order.{AreLevelsOf}
 use Rattle.pf_solver.specs.Velocities.{Batch}
 use Rattle.pf_batches.specs.Islands.{AreHeldBy, IsLoaded, IsOverlapLoaded}
-use Rattle.pf_batches.specs.Numbers.{AreBundlesFor, AreNumbersOf, AreSeatsOf, HoldEach, IsBundleOn, seat_of, seats_of}
+use Rattle.pf_batches.specs.Unknowns.{AreBundlesFor, AreUnknownsOf, AreSeatsOf, HoldEach, IsBundleOn, seat_of, seats_of}
 use Rattle.pf_bundles.specs.Seats.{IsSeatIn}
 use Rattle.pf_batches.proofs.Levels.{rows_at_places}
-use Rattle.pf_batches.proofs.Numbers.{numbers_fit}
+use Rattle.pf_batches.proofs.Unknowns.{unknowns_fit}
 
 -- ---- rows that lanes hold
 
@@ -71,8 +71,8 @@ place_of_seat pairs (p ∷ level) (suc i) seat at = place_of_seat pairs level i 
 
 -- ---- one bundle
 
-module _ (b : Batch) (n : Numbers) (lanes : List LaneRow) (fit : AreNumbersOf b n) (held : AreHeldBy lanes b.rows) where
-  -- a seat of a row stands in the numbers
+module _ (b : Batch) (n : Unknowns) (lanes : List LaneRow) (fit : AreUnknownsOf b n) (held : AreHeldBy lanes b.rows) where
+  -- a seat of a row stands in the unknowns
   seat_in : (p : ℕ) (d : Row) → IsBatch b → p < length b.rows → IsSeatIn n (seat_at (map pair_of b.rows) p)
   seat_in p d batch within =
       let own = All-get_or (λ r. IsEntryOf (length b.bodies) r.entry) b.rows p d within batch in
@@ -162,7 +162,7 @@ module _ (b : Batch) (lanes : List LaneRow) (levels : List (List ℕ)) (bundles 
     hold = hold_each lanes b.rows held;
   }
 
-  pub bundles_on : (n : Numbers) → AreNumbersOf b n → IsBatch b → All (IsBundleOn lanes n) bundles
+  pub bundles_on : (n : Unknowns) → AreUnknownsOf b n → IsBatch b → All (IsBundleOn lanes n) bundles
   bundles_on n fit batch = all_from (IsBundleOn lanes n) bundles (λ i bundle own.
       let in_bundles = slice_get_within bundles i bundle own in
       let in_levels : i < length levels = omega (arith, in_bundles, many) in
@@ -176,7 +176,7 @@ levels_within b levels of =
     subst (λ n. All (All (λ p. p < n)) levels) (length-map b.rows pair_of) (numbers_within (map pair_of b.rows) levels of)
 
 -- where rounds do not overlap, no level is early, and all levels stand for those across two rounds
-pub no_overlap : (b : Batch) (levels : List (List ℕ)) (lanes : List LaneRow) (n : Numbers) (bundles : List Bundle)
+pub no_overlap : (b : Batch) (levels : List (List ℕ)) (lanes : List LaneRow) (n : Unknowns) (bundles : List Bundle)
     → IsLoaded b levels lanes n bundles → IsOverlapLoaded (map pair_of b.rows) lanes 0 levels levels bundles
 no_overlap b levels lanes n bundles loaded = record {
   early_in_levels = omega arith;
@@ -186,11 +186,11 @@ no_overlap b levels lanes n bundles loaded = record {
 }
 
 -- a batch that is loaded, with levels across two rounds
-module _ (b : Batch) (levels across : List (List ℕ)) (early_levels : ℕ) (lanes : List LaneRow) (n : Numbers) (bundles overlap_bundles : List Bundle)
+module _ (b : Batch) (levels across : List (List ℕ)) (early_levels : ℕ) (lanes : List LaneRow) (n : Unknowns) (bundles overlap_bundles : List Bundle)
     (loaded : IsLoaded b levels lanes n bundles)
     (joint : IsOverlapLoaded (map pair_of b.rows) lanes early_levels levels across overlap_bundles) where
-  fit : AreNumbersOf b n
-  fit = subst (AreNumbersOf b) (sym loaded.numbers) (numbers_fit b)
+  fit : AreUnknownsOf b n
+  fit = subst (AreUnknownsOf b) (sym loaded.unknowns) (unknowns_fit b)
 
   across_within : All (All (λ p. p < length b.rows)) across
   across_within = subst (λ m. All (All (λ p. p < m)) across) (length-map b.rows pair_of) joint.within

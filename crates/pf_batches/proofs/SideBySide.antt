@@ -10,7 +10,7 @@ use Rattle.pf_rows.specs.Row.{InverseMass, IsEntryOf, Row}
 use Rattle.pf_rot.specs.Vector.{V2}
 use Rattle.pf_levels.specs.Levels.{ArePairsOf, IsRowPairOf, pair_of}
 use Rattle.pf_bundles.specs.LaneRow.{IsHeldBy, LaneRow, arm_on, mass_on}
-use Rattle.pf_bundles.specs.Numbers.{Numbers}
+use Rattle.pf_bundles.specs.Unknowns.{Unknowns}
 use Rattle.pf_islands.specs.Split.{Island}
 use Rattle.pf_solver.specs.declared.velocities.TheConstants.{ROUNDS}
 use Rattle.pf_solver.specs.Alone.{batch_in, island_after_rounds, island_with}
@@ -19,9 +19,9 @@ use Rattle.pf_solver.specs.Impulse.{Motion, after_round, after_warm_start}
 use Rattle.pf_solver.specs.Velocities.{Batch, Step, bodies_after, body_with, contact_state, pass, passes, row_after, with_motion}
 use Rattle.pf_solver.proofs.Beside.{batch_side_by_side, beside_of_lists, velocities_side_by_side}
 use Rattle.pf_solver.proofs.Passes.{bodies_length, rows_length}
-use Rattle.pf_batches.specs.Islands.{AreBatches, AreHeldBy, batch_of, first_numbers, island_with_first, islands_with_numbers, numbers_behind, other_numbers, pairs_behind}
-use Rattle.pf_batches.specs.Numbers.{AreNumbersOf, batch_with_numbers, batch_numbers, velocity_of, with_impulses, with_velocities}
-use Rattle.pf_batches.proofs.Numbers.{bodies_as_many, numbers_again, numbers_back, numbers_fit, own_numbers, rows_as_many}
+use Rattle.pf_batches.specs.Islands.{AreBatches, AreHeldBy, batch_of, first_unknowns, island_with_first, islands_with_unknowns, unknowns_behind, other_unknowns, pairs_behind}
+use Rattle.pf_batches.specs.Unknowns.{AreUnknownsOf, batch_with_unknowns, batch_unknowns, velocity_of, with_impulses, with_velocities}
+use Rattle.pf_batches.proofs.Unknowns.{bodies_as_many, unknowns_again, unknowns_back, unknowns_fit, own_unknowns, rows_as_many}
 
 -- ---- one island more
 
@@ -48,12 +48,12 @@ one_pushed f before now xs k x y within is made so_far =
     ∙ ap (λ rest. before ++ rest)
     (sym (map-append f (take k xs) (get_or xs k x ∷ [])) ∙ ap (map f) (sym (take_more xs k x within)))
 
--- the numbers of two batches side by side
-numbers_beside : (a b : Batch) → batch_numbers (beside a b) ≡ record {
+-- the unknowns of two batches side by side
+unknowns_beside : (a b : Batch) → batch_unknowns (beside a b) ≡ record {
   velocities = map velocity_of a.bodies ++ map velocity_of b.bodies;
   impulses = map (λ (r : Row). r.entry.impulses) a.rows ++ map (λ (r : Row). r.entry.impulses) b.rows;
 }
-numbers_beside a b =
+unknowns_beside a b =
     let own = λ (r : Row). r.entry.impulses in
     let shift = shifted_row (length a.bodies) in
     ap₂ (λ velocities impulses. record { velocities = velocities; impulses = impulses })
@@ -80,15 +80,15 @@ module _ (islands : List Island) (k : ℕ) (d : Island) (within : k < length isl
       ∙ map-append pair_of front.rows (map shift own)
       ∙ ap (λ pairs. map pair_of front.rows ++ pairs) (map-map pair_of shift own)
 
-  -- the numbers with those of the next island
-  pub numbers_more : batch_numbers (batch_of (take (k + 1) islands)) ≡ record {
+  -- the unknowns with those of the next island
+  pub unknowns_more : batch_unknowns (batch_of (take (k + 1) islands)) ≡ record {
     velocities = map velocity_of (batch_of (take k islands)).bodies ++ map velocity_of (get_or islands k d).bodies;
     impulses = map (λ (r : Row). r.entry.impulses) (batch_of (take k islands)).rows
         ++ map (λ (r : Row). r.entry.impulses) (get_or islands k d).rows;
   }
-  numbers_more =
-      ap batch_numbers (one_more islands k d within)
-      ∙ numbers_beside (batch_of (take k islands)) (batch_in (get_or islands k d))
+  unknowns_more =
+      ap batch_unknowns (one_more islands k d within)
+      ∙ unknowns_beside (batch_of (take k islands)) (batch_in (get_or islands k d))
 
 -- the pairs of a batch are pairs of its bodies
 pub pairs_of_batch : (b : Batch) → IsBatch b → ArePairsOf (length b.bodies) (map pair_of b.rows)
@@ -171,36 +171,36 @@ held_with_next islands k d lanes within held =
 
 -- ---- numbers stored island by island
 
--- the numbers behind some and then behind others
-behind_both : (a b c d : ℕ) (n : Numbers) → numbers_behind c d (numbers_behind a b n) ≡ numbers_behind (a + c) (b + d) n
+-- the unknowns behind some and then behind others
+behind_both : (a b c d : ℕ) (n : Unknowns) → unknowns_behind c d (unknowns_behind a b n) ≡ unknowns_behind (a + c) (b + d) n
 behind_both a b c d n =
     ap₂ (λ velocities impulses. record { velocities = velocities; impulses = impulses })
     (drop-drop c a n.velocities) (drop-drop d b n.impulses)
 
 -- an island with other numbers has as many bodies
-pub bodies_kept : (n : Numbers) (i after : Island) → after ≡ island_with_first n i → length after.bodies ≡ length i.bodies
-bodies_kept n i after is = ap (λ (x : Island). length x.bodies) is ∙ bodies_as_many (first_numbers i n) (batch_in i)
+pub bodies_kept : (n : Unknowns) (i after : Island) → after ≡ island_with_first n i → length after.bodies ≡ length i.bodies
+bodies_kept n i after is = ap (λ (x : Island). length x.bodies) is ∙ bodies_as_many (first_unknowns i n) (batch_in i)
 
 -- and as many rows
-pub rows_kept : (n : Numbers) (i after : Island) → after ≡ island_with_first n i → length after.rows ≡ length i.rows
-rows_kept n i after is = ap (λ (x : Island). length x.rows) is ∙ rows_as_many (first_numbers i n) (batch_in i)
+pub rows_kept : (n : Unknowns) (i after : Island) → after ≡ island_with_first n i → length after.rows ≡ length i.rows
+rows_kept n i after is = ap (λ (x : Island). length x.rows) is ∙ rows_as_many (first_unknowns i n) (batch_in i)
 
--- the islands that are left have as many numbers as are left; those before have theirs
-pub record AreStored (n : Numbers) (islands : List Island) (bodies rows k : ℕ) (now : List Island) : Type 0 where
+-- the islands that are left have as many unknowns as are left; those before have theirs
+pub record AreStored (n : Unknowns) (islands : List Island) (bodies rows k : ℕ) (now : List Island) : Type 0 where
   pub velocities : bodies ≤ length n.velocities
   pub impulses : rows ≤ length n.impulses
-  pub rest : AreNumbersOf (batch_of (drop k now)) (numbers_behind bodies rows n)
-  pub value : islands_with_numbers n islands ≡ take k now ++ islands_with_numbers (numbers_behind bodies rows n) (drop k now)
+  pub rest : AreUnknownsOf (batch_of (drop k now)) (unknowns_behind bodies rows n)
+  pub value : islands_with_unknowns n islands ≡ take k now ++ islands_with_unknowns (unknowns_behind bodies rows n) (drop k now)
 
-module _ (n : Numbers) (islands : List Island) (bodies rows k : ℕ) (now : List Island) (i d : Island)
+module _ (n : Unknowns) (islands : List Island) (bodies rows k : ℕ) (now : List Island) (i d : Island)
     (stored : AreStored n islands bodies rows k now) (within : k < length now) (is : i ≡ get_or now k d) where
   -- the islands that are left begin with the next one
   left : drop k now ≡ i ∷ drop (k + 1) now
   left = drop_more now k d within ∙ ap (λ x. x ∷ drop (k + 1) now) (sym is)
 
-  -- they have as many numbers as are left
-  fit_left : AreNumbersOf (batch_of (i ∷ drop (k + 1) now)) (numbers_behind bodies rows n)
-  fit_left = subst (λ some. AreNumbersOf (batch_of some) (numbers_behind bodies rows n)) left stored.rest
+  -- they have as many unknowns as are left
+  fit_left : AreUnknownsOf (batch_of (i ∷ drop (k + 1) now)) (unknowns_behind bodies rows n)
+  fit_left = subst (λ some. AreUnknownsOf (batch_of some) (unknowns_behind bodies rows n)) left stored.rest
 
   -- there are velocities for the bodies of the next island
   pub enough_velocities : bodies + length i.bodies ≤ length n.velocities
@@ -214,8 +214,8 @@ module _ (n : Numbers) (islands : List Island) (bodies rows k : ℕ) (now : List
       let more = map (shifted_row (length i.bodies)) (batch_of (drop (k + 1) now)).rows in
       omega (arith, stored.impulses, fit_left.impulses, length-append i.rows more, length-drop rows n.impulses)
 
-  -- the numbers left are as many as those of the islands behind it
-  fit_behind : AreNumbersOf (batch_of (drop (k + 1) now)) (numbers_behind (bodies + length i.bodies) (rows + length i.rows) n)
+  -- the unknowns left are as many as those of the islands behind it
+  fit_behind : AreUnknownsOf (batch_of (drop (k + 1) now)) (unknowns_behind (bodies + length i.bodies) (rows + length i.rows) n)
   fit_behind =
       let rest = batch_of (drop (k + 1) now) in
       let shift = shifted_row (length i.bodies) in
@@ -242,51 +242,51 @@ module _ (n : Numbers) (islands : List Island) (bodies rows k : ℕ) (now : List
       }
 
   -- one island more is stored
-  pub stored_next : (after : Island) → after ≡ island_with_first (numbers_behind bodies rows n) i
+  pub stored_next : (after : Island) → after ≡ island_with_first (unknowns_behind bodies rows n) i
       → AreStored n islands (bodies + length i.bodies) (rows + length i.rows) (k + 1) (set now k after)
   stored_next after made =
-      let before = numbers_behind bodies rows n in
-      let then = numbers_behind (bodies + length i.bodies) (rows + length i.rows) n in
+      let before = unknowns_behind bodies rows n in
+      let then = unknowns_behind (bodies + length i.bodies) (rows + length i.rows) n in
       let same : drop (k + 1) (set now k after) ≡ drop (k + 1) now =
       drop-set-lt (k + 1) now k after (omega arith) in
       record {
         velocities = enough_velocities;
         impulses = enough_impulses;
-        rest = subst (λ some. AreNumbersOf (batch_of some) then) (sym same) fit_behind;
+        rest = subst (λ some. AreUnknownsOf (batch_of some) then) (sym same) fit_behind;
         value =
-            stored.value ∙ ap (λ some. take k now ++ islands_with_numbers before some) left
-            ∙ ap (λ x. take k now ++ x ∷ islands_with_numbers (other_numbers i before) (drop (k + 1) now)) (sym made)
-            ∙ ap (λ x. take k now ++ after ∷ islands_with_numbers x (drop (k + 1) now))
+            stored.value ∙ ap (λ some. take k now ++ islands_with_unknowns before some) left
+            ∙ ap (λ x. take k now ++ x ∷ islands_with_unknowns (other_unknowns i before) (drop (k + 1) now)) (sym made)
+            ∙ ap (λ x. take k now ++ after ∷ islands_with_unknowns x (drop (k + 1) now))
             (behind_both bodies rows (length i.bodies) (length i.rows) n)
-            ∙ sym (append_assoc (take k now) (after ∷ []) (islands_with_numbers then (drop (k + 1) now)))
-            ∙ ap₂ (λ front some. front ++ islands_with_numbers then some) (sym (take_more_set now k after within)) (sym same);
+            ∙ sym (append_assoc (take k now) (after ∷ []) (islands_with_unknowns then (drop (k + 1) now)))
+            ∙ ap₂ (λ front some. front ++ islands_with_unknowns then some) (sym (take_more_set now k after within)) (sym same);
       }
 
 -- ---- a pass changes of a batch nothing but its numbers
 
 -- the second batch is the first one with other numbers
 record IsWithOwn (before after : Batch) : Type 0 where
-  fit : AreNumbersOf before (batch_numbers after)
-  same : batch_with_numbers (batch_numbers after) before ≡ after
+  fit : AreUnknownsOf before (batch_unknowns after)
+  same : batch_with_unknowns (batch_unknowns after) before ≡ after
 
 -- nothing changes
 own_as_is : (b : Batch) → IsWithOwn b b
-own_as_is b = record { fit = numbers_fit b; same = own_numbers b }
+own_as_is b = record { fit = unknowns_fit b; same = own_unknowns b }
 
 -- one change after another
 own_again : (a b c : Batch) → IsWithOwn a b → IsWithOwn b c → IsWithOwn a c
 own_again a b c first second =
     let bodies : length b.bodies ≡ length a.bodies =
-    ap (λ (x : Batch). length x.bodies) (sym first.same) ∙ bodies_as_many (batch_numbers b) a in
+    ap (λ (x : Batch). length x.bodies) (sym first.same) ∙ bodies_as_many (batch_unknowns b) a in
     let rows : length b.rows ≡ length a.rows =
-    ap (λ (x : Batch). length x.rows) (sym first.same) ∙ rows_as_many (batch_numbers b) a in
-    let fit : AreNumbersOf a (batch_numbers c) =
+    ap (λ (x : Batch). length x.rows) (sym first.same) ∙ rows_as_many (batch_unknowns b) a in
+    let fit : AreUnknownsOf a (batch_unknowns c) =
     record { velocities = second.fit.velocities ∙ bodies; impulses = second.fit.impulses ∙ rows } in
     record {
       fit = fit;
       same =
-          sym (numbers_again a (batch_numbers c) fit (batch_numbers b))
-          ∙ ap (batch_with_numbers (batch_numbers c)) first.same ∙ second.same;
+          sym (unknowns_again a (batch_unknowns c) fit (batch_unknowns b))
+          ∙ ap (batch_with_unknowns (batch_unknowns c)) first.same ∙ second.same;
     }
 
 -- bodies without rows
@@ -295,7 +295,7 @@ bare bodies = record { bodies = bodies; rows = [] }
 
 -- bodies with their own velocities are as they were
 own_bodies : (bodies : List BodyState) → with_velocities (map velocity_of bodies) bodies ≡ bodies
-own_bodies bodies = ap (λ (b : Batch). b.bodies) (own_numbers (bare bodies))
+own_bodies bodies = ap (λ (b : Batch). b.bodies) (own_unknowns (bare bodies))
 
 -- another motion of the body at a place changes nothing but its velocity
 own_moved : (bodies : List BodyState) (k : ℕ) (d : BodyState) (m : Motion)
@@ -374,34 +374,34 @@ own_velocities b =
     own_again b warm (passes ROUNDS after_round warm) (own_pass after_warm_start b) (own_passes after_round ROUNDS warm)
 
 -- a batch with its numbers after the velocity phase is the batch after it
-pub velocities_stored : (b : Batch) → batch_with_numbers (batch_numbers (velocities_of b)) b ≡ velocities_of b
+pub velocities_stored : (b : Batch) → batch_with_unknowns (batch_unknowns (velocities_of b)) b ≡ velocities_of b
 velocities_stored b = (own_velocities b).same
 
 -- ---- islands after their rounds
 
 -- the first numbers of batches side by side are those of the first batch
-first_of_beside : (i : Island) (own rest : Batch) → AreNumbersOf (batch_in i) (batch_numbers own)
-    → first_numbers i (batch_numbers (beside own rest)) ≡ batch_numbers own
+first_of_beside : (i : Island) (own rest : Batch) → AreUnknownsOf (batch_in i) (batch_unknowns own)
+    → first_unknowns i (batch_unknowns (beside own rest)) ≡ batch_unknowns own
 first_of_beside i own rest fit =
     let impulses = λ (r : Row). r.entry.impulses in
-    ap (first_numbers i) (numbers_beside own rest)
+    ap (first_unknowns i) (unknowns_beside own rest)
     ∙ ap₂ (λ velocities impulses. record { velocities = velocities; impulses = impulses })
     (take_at (map velocity_of own.bodies) (map velocity_of rest.bodies) (length i.bodies) fit.velocities)
     (take_at (map impulses own.rows) (map impulses rest.rows) (length i.rows) fit.impulses)
 
 -- and the others are those of the rest
-others_of_beside : (i : Island) (own rest : Batch) → AreNumbersOf (batch_in i) (batch_numbers own)
-    → other_numbers i (batch_numbers (beside own rest)) ≡ batch_numbers rest
+others_of_beside : (i : Island) (own rest : Batch) → AreUnknownsOf (batch_in i) (batch_unknowns own)
+    → other_unknowns i (batch_unknowns (beside own rest)) ≡ batch_unknowns rest
 others_of_beside i own rest fit =
     let impulses = λ (r : Row). r.entry.impulses in
-    ap (other_numbers i) (numbers_beside own rest)
+    ap (other_unknowns i) (unknowns_beside own rest)
     ∙ ap₂ (λ velocities impulses. record { velocities = velocities; impulses = impulses })
     (drop_at (map velocity_of own.bodies) (map velocity_of rest.bodies) (length i.bodies) fit.velocities)
     (drop_at (map impulses own.rows) (map impulses rest.rows) (length i.rows) fit.impulses)
 
--- islands with the numbers of each after its velocity phase
+-- islands with the unknowns of each after its velocity phase
 each_stored : (islands : List Island)
-    → islands_with_numbers (batch_numbers (side_by_side (map (λ i. velocities_of (batch_in i)) islands))) islands
+    → islands_with_unknowns (batch_unknowns (side_by_side (map (λ i. velocities_of (batch_in i)) islands))) islands
     ≡ map island_after_rounds islands
 each_stored [] = refl
 each_stored (i ∷ islands) =
@@ -409,18 +409,18 @@ each_stored (i ∷ islands) =
     let rest = side_by_side (map (λ i. velocities_of (batch_in i)) islands) in
     let fit = (own_velocities (batch_in i)).fit in
     ap₂ (λ (x : Island) xs. x ∷ xs)
-    (ap (λ n. island_with (batch_with_numbers n (batch_in i)) i) (first_of_beside i own rest fit)
+    (ap (λ n. island_with (batch_with_unknowns n (batch_in i)) i) (first_of_beside i own rest fit)
     ∙ ap (λ b. island_with b i) (velocities_stored (batch_in i)))
-    (ap (λ n. islands_with_numbers n islands) (others_of_beside i own rest fit) ∙ each_stored islands)
+    (ap (λ n. islands_with_unknowns n islands) (others_of_beside i own rest fit) ∙ each_stored islands)
 
--- islands with the numbers of their batch after its velocity phase are each after its own rounds
-pub islands_after_rounds : (islands : List Island) (now : Numbers) → AreBatches islands
-    → AreNumbersOf (batch_of islands) now → batch_with_numbers now (batch_of islands) ≡ velocities_of (batch_of islands)
-    → islands_with_numbers now islands ≡ map island_after_rounds islands
+-- islands with the unknowns of their batch after its velocity phase are each after its own rounds
+pub islands_after_rounds : (islands : List Island) (now : Unknowns) → AreBatches islands
+    → AreUnknownsOf (batch_of islands) now → batch_with_unknowns now (batch_of islands) ≡ velocities_of (batch_of islands)
+    → islands_with_unknowns now islands ≡ map island_after_rounds islands
 islands_after_rounds islands now batches fit solved =
-    ap (λ n. islands_with_numbers n islands)
-    (sym (numbers_back (batch_of islands) now fit)
-    ∙ ap batch_numbers
+    ap (λ n. islands_with_unknowns n islands)
+    (sym (unknowns_back (batch_of islands) now fit)
+    ∙ ap batch_unknowns
     (solved ∙ velocities_side_by_side (map batch_in islands) (All-map IsBatch batch_in islands batches)
     ∙ ap side_by_side (map-map velocities_of batch_in islands)))
     ∙ each_stored islands

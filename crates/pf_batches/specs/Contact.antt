@@ -4,7 +4,7 @@ use Rattle.pf_lanes.specs.Lanes.{First, Fourth, Lane, Lanes, Second, Third, numb
 use Rattle.pf_rows.specs.Impulses.{Impulses}
 use Rattle.pf_rows.specs.Row.{InverseMass}
 use Rattle.pf_rows.specs.Small.{AreWithin, IsShort}
-use Rattle.pf_bundles.specs.Numbers.{Velocity}
+use Rattle.pf_bundles.specs.Unknowns.{Velocity}
 use Rattle.pf_bundles.specs.Seats.{SeatState}
 use Rattle.pf_bundles.specs.Prepared.{MassLanes, PreparedLanes, VectorLanes, mass_in, vector_in}
 use Rattle.pf_solver.specs.Impulse.{ContactState, Motion}
@@ -46,7 +46,7 @@ impulses_in_lane k normal tangent = record {
   tangent = number_in k tangent;
 }
 
--- the numbers of a lane
+-- the unknowns of a lane
 abbrev pub seat_state_in : Lane → ContactLanes → SeatState
 seat_state_in k s = record {
   first = velocity_in_lane k s.first;

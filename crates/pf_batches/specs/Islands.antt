@@ -1,9 +1,9 @@
 -- Several islands side by side as one batch: what the solver holds of them in its lists, and the
--- islands with the numbers that it leaves.
+-- islands with the unknowns that it leaves.
 use Rattle.std.specs.Prelude.{◌≡◌, ◌<◌, ◌≤◌, ℕ, ⊤, All, List, [], ◌∷◌, drop, length, map, take}
 use Rattle.pf_rows.specs.Row.{Row}
 use Rattle.pf_bundles.specs.LaneRow.{IsHeldBy, LaneRow}
-use Rattle.pf_bundles.specs.Numbers.{Numbers}
+use Rattle.pf_bundles.specs.Unknowns.{Unknowns}
 use Rattle.pf_islands.specs.Split.{Island}
 use Rattle.pf_levels.specs.Levels.{RowPair, pair_of}
 use Rattle.pf_solver.specs.Alone.{batch_in, island_with}
@@ -12,7 +12,7 @@ use Rattle.pf_solver.specs.Velocities.{Batch}
 use Rattle.pf_bundles.specs.Bundle.{AreBundlesOf, Bundle}
 use Rattle.pf_solver.specs.Order.{AreLevelsOf, DoLateAndEarly}
 use Rattle.pf_batches.specs.declared.batch.TheConstants.{START_LIMIT}
-use Rattle.pf_batches.specs.Numbers.{AreAllWithin, batch_with_numbers, batch_numbers}
+use Rattle.pf_batches.specs.Unknowns.{AreAllWithin, batch_with_unknowns, batch_unknowns}
 
 -- islands side by side
 abbrev pub batch_of : List Island → Batch
@@ -33,43 +33,43 @@ AreHeldBy [] (r ∷ rows) = ⊥
 AreHeldBy (l ∷ lanes) [] = ⊥
 AreHeldBy (l ∷ lanes) (r ∷ rows) = IsHeldBy l r × AreHeldBy lanes rows
 
--- the numbers of an island, the first ones of these
-abbrev pub first_numbers : Island → Numbers → Numbers
-first_numbers i n = record {
+-- the unknowns of an island, the first ones of these
+abbrev pub first_unknowns : Island → Unknowns → Unknowns
+first_unknowns i n = record {
   velocities = take (length i.bodies) n.velocities;
   impulses = take (length i.rows) n.impulses;
 }
 
--- the numbers behind so many velocities and so many impulses
-abbrev pub numbers_behind : ℕ → ℕ → Numbers → Numbers
-numbers_behind bodies rows n = record {
+-- the unknowns behind so many velocities and so many impulses
+abbrev pub unknowns_behind : ℕ → ℕ → Unknowns → Unknowns
+unknowns_behind bodies rows n = record {
   velocities = drop bodies n.velocities;
   impulses = drop rows n.impulses;
 }
 
--- the numbers behind those of an island
-abbrev pub other_numbers : Island → Numbers → Numbers
-other_numbers i n = numbers_behind (length i.bodies) (length i.rows) n
+-- the unknowns behind those of an island
+abbrev pub other_unknowns : Island → Unknowns → Unknowns
+other_unknowns i n = unknowns_behind (length i.bodies) (length i.rows) n
 
--- an island with the first ones of these numbers
-abbrev pub island_with_first : Numbers → Island → Island
-island_with_first n i = island_with (batch_with_numbers (first_numbers i n) (batch_in i)) i
+-- an island with the first ones of these unknowns
+abbrev pub island_with_first : Unknowns → Island → Island
+island_with_first n i = island_with (batch_with_unknowns (first_unknowns i n) (batch_in i)) i
 
--- islands with these numbers: the first island with the first ones, the rest with the others
-abbrev pub islands_with_numbers : Numbers → List Island → List Island
-islands_with_numbers n [] = []
-islands_with_numbers n (i ∷ islands) =
-    island_with_first n i ∷ islands_with_numbers (other_numbers i n) islands
+-- islands with these unknowns: the first island with the first ones, the rest with the others
+abbrev pub islands_with_unknowns : Unknowns → List Island → List Island
+islands_with_unknowns n [] = []
+islands_with_unknowns n (i ∷ islands) =
+    island_with_first n i ∷ islands_with_unknowns (other_unknowns i n) islands
 
 -- what the solver holds of a batch before its rounds: its levels, its rows in lanes, its numbers,
 -- and the bundles of the levels
 pub record IsLoaded
-    (b : Batch) (levels : List (List ℕ)) (lanes : List LaneRow) (n : Numbers)
+    (b : Batch) (levels : List (List ℕ)) (lanes : List LaneRow) (n : Unknowns)
     (bundles : List Bundle)
     : Type 0 where
   pub order : AreLevelsOf b levels
   pub rows : AreHeldBy lanes b.rows
-  pub numbers : n ≡ batch_numbers b
+  pub unknowns : n ≡ batch_unknowns b
   pub within : AreAllWithin START_LIMIT n
   pub each : AreBundlesOf (map pair_of b.rows) lanes levels bundles
 

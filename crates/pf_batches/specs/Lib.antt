@@ -1,5 +1,5 @@
 -- What the contracts of this crate cite.
 pub mod Contact
 pub mod Limits
-pub mod Numbers
+pub mod Unknowns
 pub mod Islands

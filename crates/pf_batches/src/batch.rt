@@ -7,9 +7,9 @@ ghost use Rattle.pf_levels.specs.Levels.{AreLevels, ArePairsOf, pair_of};
 ghost use Rattle.pf_solver.specs.Order.{AreLevelsOf};
 ghost use Rattle.pf_batches.specs.Islands.{AreBatches, IsLoaded, IsOverlapLoaded, batch_of};
 
-use crate::islands::{load_numbers, load_pairs, load_rows, store_numbers};
-use crate::passes::solve_numbers;
-use pf_bundles::{Bundle, LaneRow, Numbers, Workspace, load_bundles};
+use crate::islands::{load_pairs, load_rows, load_unknowns, store_unknowns};
+use crate::passes::solve_unknowns;
+use pf_bundles::{Bundle, LaneRow, Unknowns, Workspace, load_bundles};
 use pf_islands::Island;
 use pf_levels::{Level, Levels, Overlap, RowPair, WIDTH};
 use pf_shapes::Scene;
@@ -51,23 +51,23 @@ fn load_levels(
     Ok(bodies)
 }
 
-/// Loads the rows and the numbers of islands, and makes the bundles of their levels; `false` where
+/// Loads the rows and the unknowns of islands, and makes the bundles of their levels; `false` where
 /// doubles do not hold a number, or one is too great.
 fn load_bundles_of(
     islands: &[Island],
     pairs: &[RowPair],
     levels: &Levels,
     rows: &mut Vec<LaneRow>,
-    numbers: &mut Numbers,
+    unknowns: &mut Unknowns,
     bundles: &mut Vec<Bundle>,
 ) -> Result<bool, AllocError>
     requires pairs { pairs.now ≡ map pair_of (batch_of islands.now).rows }
     requires sides { ArePairsOf (2 ^ 64 - 1) pairs.now }
     requires levels { AreLevelsOf (batch_of islands.now) levels.now }
     ensures { IfOk result (λ loaded. IsTrue loaded → IsLoaded (batch_of islands.now)
-        levels.now rows.new.items numbers.new bundles.new.items) }
+        levels.now rows.new.items unknowns.new bundles.new.items) }
 {
-    if !load_rows(islands, rows)? || !load_numbers(islands, numbers, START_LIMIT)? {
+    if !load_rows(islands, rows)? || !load_unknowns(islands, unknowns, START_LIMIT)? {
         return Ok(false);
     }
     load_bundles(bundles, levels.levels(), pairs, rows)?;
@@ -118,37 +118,40 @@ fn solve_loaded(
     bundles: &[Bundle],
     early_levels: usize,
     overlap_bundles: &[Bundle],
-    numbers: &mut Numbers,
+    unknowns: &mut Unknowns,
     islands: &mut [Island],
 ) -> bool
     requires batches { AreBatches islands.old }
     requires loaded { (levels across : List (List ℕ))
-        × IsLoaded (batch_of islands.old) levels rows.now numbers.old bundles.now
+        × IsLoaded (batch_of islands.old) levels rows.now unknowns.old bundles.now
         × IsOverlapLoaded (map pair_of (batch_of islands.old).rows) rows.now early_levels levels
         across overlap_bundles.now }
     ensures solved { IsTrue result → islands.new ≡ map island_after_rounds islands.old }
     ensures left { result ≡ false → islands.new ≡ islands.old }
 {
-    let done = solve_numbers(
+    let done = solve_unknowns(
         bundles,
         early_levels,
         overlap_bundles,
         rows,
-        numbers,
+        unknowns,
         START_LIMIT,
     );
     if done {
-        store_numbers(islands, numbers);
+        store_unknowns(islands, unknowns);
     }
     done
 }
 
-/// The numbers of a workspace, which has none at first.
-fn numbers_in(numbers: &mut Option<Numbers>, alloc: Global) -> Result<&mut Numbers, AllocError> {
-    if numbers.is_none() {
-        *numbers = Some(Numbers::new(alloc)?);
+/// The unknowns of a workspace, which has none at first.
+fn unknowns_in(
+    unknowns: &mut Option<Unknowns>,
+    alloc: Global,
+) -> Result<&mut Unknowns, AllocError> {
+    if unknowns.is_none() {
+        *unknowns = Some(Unknowns::new(alloc)?);
     }
-    numbers.as_mut().ok_or(AllocError)
+    unknowns.as_mut().ok_or(AllocError)
 }
 
 /// The rounds of islands in lanes, by the memory of a workspace; `false`, and the islands as they
@@ -167,12 +170,12 @@ fn solve_in_lanes(workspace: &mut Workspace, islands: &mut [Island]) -> Result<b
         rows,
         bundles,
         overlap_bundles,
-        numbers,
+        unknowns,
     } = workspace;
-    let numbers = numbers_in(numbers, *pairs.allocator())?;
+    let unknowns = unknowns_in(unknowns, *pairs.allocator())?;
     let bodies = load_levels(islands, pairs, levels)?;
     if !lanes_pay(pairs.len(), levels.levels().len())
-        || !load_bundles_of(islands, pairs, levels, rows, numbers, bundles)?
+        || !load_bundles_of(islands, pairs, levels, rows, unknowns, bundles)?
     {
         return Ok(false);
     }
@@ -189,10 +192,10 @@ fn solve_in_lanes(workspace: &mut Workspace, islands: &mut [Island]) -> Result<b
             bundles,
             early_levels,
             overlap_bundles,
-            numbers,
+            unknowns,
             islands,
         )),
-        None => Ok(solve_loaded(rows, bundles, 0, bundles, numbers, islands)),
+        None => Ok(solve_loaded(rows, bundles, 0, bundles, unknowns, islands)),
     }
 }
 

@@ -11,7 +11,7 @@ ghost use Rattle.pf_solver.specs.FastPath.{IsArmFor};
 ghost use Rattle.pf_solver.specs.Impulse.{ContactState};
 ghost use Rattle.pf_batches.specs.Contact.{IsSeatWithin, seat_state_in, state_in};
 ghost use Rattle.pf_batches.specs.Limits.{AreGrown, IsContactWithin};
-ghost use Rattle.pf_batches.specs.Numbers.{AreAllWithin, AreNumbersOf, AreSeatsOf, HoldEach, HoldsSeatRow, lane_result, numbers_at_once};
+ghost use Rattle.pf_batches.specs.Unknowns.{AreAllWithin, AreUnknownsOf, AreSeatsOf, HoldEach, HoldsSeatRow, lane_result, unknowns_at_once};
 ghost use Rattle.pf_bundles.specs.Seats.{AreAsMany, AreFirst, HasSeatIn, IsSeatIn, lane_seat, seat_state_at, seat_state_or, taken_seats};
 
 use crate::contact::{ContactLanes, accumulated, motions};
@@ -19,7 +19,7 @@ use crate::round::after_round;
 use crate::seat_state::{contact_of, seat_state_of};
 use crate::warm_start::after_warm_start;
 use pf_bundles::limits::NUMBER_LIMIT;
-use pf_bundles::{Bundle, LaneRow, LaneSeat, Numbers, PreparedLanes, SeatState};
+use pf_bundles::{Bundle, LaneRow, LaneSeat, PreparedLanes, SeatState, Unknowns};
 use pf_lanes::EXACT_LIMIT;
 use pf_solver::{ContactState, ContactStep, Round, WarmStart};
 
@@ -77,34 +77,34 @@ impl LaneStep for Round {
     }
 }
 
-/// The contacts of lanes with these seats. Their numbers are lent, not copied: each is loaded by
+/// The contacts of lanes with these seats. Their unknowns are lent, not copied: each is loaded by
 /// itself, as it was stored.
 #[inline(always)]
 #[tactic(auto, using(pf_bundles::proofs::Seats::has_seat))]
-fn read(numbers: &Numbers, seats: &[LaneSeat; 4]) -> ContactLanes
+fn read(unknowns: &Unknowns, seats: &[LaneSeat; 4]) -> ContactLanes
     requires first { AreFirst seats.now }
-    requires seats { All (IsSeatIn numbers.now) (taken_seats seats.now) }
+    requires seats { All (IsSeatIn unknowns.now) (taken_seats seats.now) }
     ensures { (k : Lane) → seat_state_in k result
-        ≡ seat_state_or numbers.now (lane_seat k seats.now) }
+        ≡ seat_state_or unknowns.now (lane_seat k seats.now) }
 {
     let [a, b, c, d] = seats;
     let first = motions(
-        numbers.first_of(a),
-        numbers.first_of(b),
-        numbers.first_of(c),
-        numbers.first_of(d),
+        unknowns.first_of(a),
+        unknowns.first_of(b),
+        unknowns.first_of(c),
+        unknowns.first_of(d),
     );
     let second = motions(
-        numbers.second_of(a),
-        numbers.second_of(b),
-        numbers.second_of(c),
-        numbers.second_of(d),
+        unknowns.second_of(a),
+        unknowns.second_of(b),
+        unknowns.second_of(c),
+        unknowns.second_of(d),
     );
     let (normal, tangent) = accumulated(
-        numbers.impulses_of(a),
-        numbers.impulses_of(b),
-        numbers.impulses_of(c),
-        numbers.impulses_of(d),
+        unknowns.impulses_of(a),
+        unknowns.impulses_of(b),
+        unknowns.impulses_of(c),
+        unknowns.impulses_of(d),
     );
     ContactLanes {
         first,
@@ -114,7 +114,7 @@ fn read(numbers: &Numbers, seats: &[LaneSeat; 4]) -> ContactLanes
     }
 }
 
-/// The numbers of a row after the step, by scalars; `None` where one is above `limit`, or doubles
+/// The unknowns of a row after the step, by scalars; `None` where one is above `limit`, or doubles
 /// do not hold a spin.
 fn exact_state<L: ContactStep>(row: &LaneRow, state: &SeatState, limit: u64) -> Option<SeatState>
     requires { limit ≤ EXACT_LIMIT }
@@ -130,23 +130,23 @@ fn exact_state<L: ContactStep>(row: &LaneRow, state: &SeatState, limit: u64) -> 
     seat_state_of(&after, limit)
 }
 
-/// The numbers of a lane after the step, by scalars; zeros where the lane has no row. `None` as in
+/// The unknowns of a lane after the step, by scalars; zeros where the lane has no row. `None` as in
 /// [`exact_state`].
 fn exact_lane<L: ContactStep>(
     rows: &[LaneRow],
     seat: &LaneSeat,
-    numbers: &Numbers,
+    unknowns: &Unknowns,
     limit: u64,
 ) -> Option<SeatState>
     requires limit { limit ≤ EXACT_LIMIT }
-    requires seat { HasSeatIn numbers.now seat.now }
+    requires seat { HasSeatIn unknowns.now seat.now }
     requires row { IfSome seat.now (λ own. own.place < length rows.now) }
     ensures value { IfSome result (λ after. (own : Seat) → seat.now ≡ Some own
         → after ≡ lane_result L.step (slice_index_or rows.now own.place no_lane_row)
-        (seat_state_at numbers.now own)) }
+        (seat_state_at unknowns.now own)) }
     ensures size { IfSome result (λ after. IsSeatWithin limit after) }
 {
-    let state = numbers.read(seat);
+    let state = unknowns.read(seat);
     match seat.place() {
         Some(place) => exact_state::<L>(&rows[place], &state, limit),
         None => Some(state),
@@ -161,25 +161,25 @@ fn exact_lane<L: ContactStep>(
 fn after_exact<L: ContactStep>(
     rows: &[LaneRow],
     seats: &[LaneSeat; 4],
-    numbers: &Numbers,
+    unknowns: &Unknowns,
     limit: u64,
 ) -> Option<ContactLanes>
     requires limit { limit ≤ EXACT_LIMIT }
     requires first { AreFirst seats.now }
-    requires seats { All (IsSeatIn numbers.now) (taken_seats seats.now) }
+    requires seats { All (IsSeatIn unknowns.now) (taken_seats seats.now) }
     requires rows { All (λ seat. seat.place < length rows.now) (taken_seats seats.now) }
     ensures value { IfSome result (λ after. (k : Lane) (seat : Seat)
         → lane_seat k seats.now ≡ Some seat → seat_state_in k after
         ≡ lane_result L.step (slice_index_or rows.now seat.place no_lane_row)
-        (seat_state_at numbers.now seat)) }
+        (seat_state_at unknowns.now seat)) }
     ensures size { IfSome result
         (λ after. (k : Lane) → IsSeatWithin limit (seat_state_in k after)) }
 {
     let [a, b, c, d] = seats;
-    let first = exact_lane::<L>(rows, a, numbers, limit)?;
-    let second = exact_lane::<L>(rows, b, numbers, limit)?;
-    let third = exact_lane::<L>(rows, c, numbers, limit)?;
-    let fourth = exact_lane::<L>(rows, d, numbers, limit)?;
+    let first = exact_lane::<L>(rows, a, unknowns, limit)?;
+    let second = exact_lane::<L>(rows, b, unknowns, limit)?;
+    let third = exact_lane::<L>(rows, c, unknowns, limit)?;
+    let fourth = exact_lane::<L>(rows, d, unknowns, limit)?;
     Some(ContactLanes::of(&first, &second, &third, &fourth))
 }
 
@@ -188,20 +188,20 @@ fn after_exact<L: ContactStep>(
 fn after_fast<L: LaneStep>(
     prepared: &PreparedLanes,
     seats: &[LaneSeat; 4],
-    numbers: &Numbers,
+    unknowns: &Unknowns,
     limit: u64,
 ) -> Option<ContactLanes>
     requires limit { limit ≤ NUMBER_LIMIT }
     requires first { AreFirst seats.now }
-    requires seats { All (IsSeatIn numbers.now) (taken_seats seats.now) }
-    requires within { AreAllWithin limit numbers.now }
+    requires seats { All (IsSeatIn unknowns.now) (taken_seats seats.now) }
+    requires within { AreAllWithin limit unknowns.now }
     ensures value { IfSome result (λ after. (k : Lane) (seat : Seat)
         → lane_seat k seats.now ≡ Some seat → seat_state_in k after
-        ≡ lane_result L.step (lane_row_in k prepared.now) (seat_state_at numbers.now seat)) }
+        ≡ lane_result L.step (lane_row_in k prepared.now) (seat_state_at unknowns.now seat)) }
     ensures size { IfSome result (λ after. (k : Lane)
         → IsSeatWithin (limit + GROWTH) (seat_state_in k after)) }
 {
-    let state = read(numbers, seats);
+    let state = read(unknowns, seats);
     L::after_lanes(prepared, &state)
 }
 
@@ -211,51 +211,51 @@ fn after_fast<L: LaneStep>(
 fn after_step<L: LaneStep>(
     bundle: &Bundle,
     rows: &[LaneRow],
-    numbers: &Numbers,
+    unknowns: &Unknowns,
     limit: u64,
 ) -> Option<ContactLanes>
     requires limit { limit ≤ NUMBER_LIMIT }
-    requires seats { All (IsSeatIn numbers.now) bundle.now.seats }
+    requires seats { All (IsSeatIn unknowns.now) bundle.now.seats }
     requires rows { All (λ seat. seat.place < length rows.now) bundle.now.seats }
     requires held { (k : Lane) → HoldsSeatRow rows.now bundle.now.seats bundle.now.prepared k }
-    requires within { AreAllWithin limit numbers.now }
+    requires within { AreAllWithin limit unknowns.now }
     ensures value { IfSome result (λ after. (k : Lane) (seat : Seat)
         → slice_get bundle.now.seats (lane_number k) ≡ Some seat → seat_state_in k after
         ≡ lane_result L.step (slice_index_or rows.now seat.place no_lane_row)
-        (seat_state_at numbers.now seat)) }
+        (seat_state_at unknowns.now seat)) }
     ensures size { IfSome result (λ after. (k : Lane)
         → IsSeatWithin (limit + GROWTH) (seat_state_in k after)) }
 {
     let seats = bundle.seats();
-    match after_fast::<L>(bundle.prepared(), seats, numbers, limit) {
+    match after_fast::<L>(bundle.prepared(), seats, unknowns, limit) {
         Some(after) => Some(after),
-        None => after_exact::<L>(rows, seats, numbers, limit + GROWTH),
+        None => after_exact::<L>(rows, seats, unknowns, limit + GROWTH),
     }
 }
 
-/// The step of the rows of a bundle, all of them by the numbers as they were before; `false` where
+/// The step of the rows of a bundle, all of them by the unknowns as they were before; `false` where
 /// a number is then above `limit` by more than [`GROWTH`], or doubles do not hold a spin.
 #[inline(always)]
 pub(crate) fn solve_bundle<L: LaneStep>(
     bundle: &Bundle,
     rows: &[LaneRow],
-    numbers: &mut Numbers,
+    unknowns: &mut Unknowns,
     limit: u64,
 ) -> bool
     requires limit { limit ≤ NUMBER_LIMIT }
-    requires seats { All (IsSeatIn numbers.old) bundle.now.seats }
+    requires seats { All (IsSeatIn unknowns.old) bundle.now.seats }
     requires rows { All (λ seat. seat.place < length rows.now) bundle.now.seats }
     requires held { (k : Lane) → HoldsSeatRow rows.now bundle.now.seats bundle.now.prepared k }
-    requires within { AreAllWithin limit numbers.old }
-    ensures value { IsTrue result → (b : Batch) (level : List ℕ) → AreNumbersOf b numbers.old
+    requires within { AreAllWithin limit unknowns.old }
+    ensures value { IsTrue result → (b : Batch) (level : List ℕ) → AreUnknownsOf b unknowns.old
         → AreSeatsOf b.rows level bundle.now.seats → HoldEach rows.now b.rows
-        → numbers.new ≡ numbers_at_once level L.step b.rows numbers.old }
-    ensures within { IsTrue result → AreAllWithin (limit + GROWTH) numbers.new }
-    ensures many { AreAsMany numbers.old numbers.new }
+        → unknowns.new ≡ unknowns_at_once level L.step b.rows unknowns.old }
+    ensures within { IsTrue result → AreAllWithin (limit + GROWTH) unknowns.new }
+    ensures many { AreAsMany unknowns.old unknowns.new }
 {
-    match after_step::<L>(bundle, rows, numbers, limit) {
+    match after_step::<L>(bundle, rows, unknowns, limit) {
         Some(after) => {
-            numbers.store(bundle.seats(), &after.states());
+            unknowns.store(bundle.seats(), &after.states());
             true
         }
         None => false,

@@ -4,7 +4,7 @@ ghost use Rattle.std.specs.Prelude.{◌≡◌, ◌∷◌, []};
 ghost use Rattle.pf_lanes.specs.Lanes.{First, Fourth, Second, Third};
 ghost use Rattle.pf_batches.specs.Contact.{impulses_in_lane, velocity_in_lane};
 
-use pf_bundles::{SeatState, VectorLanes, WholeImpulses, WholeVector, WholeVelocity};
+use pf_bundles::{ExactImpulses, ExactVector, ExactVelocity, SeatState, VectorLanes};
 use pf_lanes::{Lanes, ShiftedLanes};
 use std::marker::Model;
 
@@ -104,10 +104,10 @@ impl ContactLanes {
 /// The motions of four bodies, one in each lane.
 #[inline(always)]
 pub(crate) fn motions(
-    first: &WholeVelocity,
-    second: &WholeVelocity,
-    third: &WholeVelocity,
-    fourth: &WholeVelocity,
+    first: &ExactVelocity,
+    second: &ExactVelocity,
+    third: &ExactVelocity,
+    fourth: &ExactVelocity,
 ) -> MotionLanes
     ensures first { velocity_in_lane First result ≡ first.now }
     ensures second { velocity_in_lane Second result ≡ second.now }
@@ -132,10 +132,10 @@ pub(crate) fn motions(
 /// The accumulated impulses of four rows, one in each lane: along the normals, and the tangents.
 #[inline(always)]
 pub(crate) fn accumulated(
-    first: &WholeImpulses,
-    second: &WholeImpulses,
-    third: &WholeImpulses,
-    fourth: &WholeImpulses,
+    first: &ExactImpulses,
+    second: &ExactImpulses,
+    third: &ExactImpulses,
+    fourth: &ExactImpulses,
 ) -> (Lanes, Lanes)
     ensures first { impulses_in_lane First result.0 result.1 ≡ first.now }
     ensures second { impulses_in_lane Second result.0 result.1 ≡ second.now }
@@ -150,7 +150,7 @@ pub(crate) fn accumulated(
 
 /// The velocities of four bodies.
 #[inline(always)]
-fn velocities(motions: &MotionLanes) -> [WholeVelocity; 4]
+fn velocities(motions: &MotionLanes) -> [ExactVelocity; 4]
     ensures { result ≡ velocity_in_lane First motions.now ∷ velocity_in_lane Second motions.now
         ∷ velocity_in_lane Third motions.now ∷ velocity_in_lane Fourth motions.now ∷ [] }
 {
@@ -159,20 +159,20 @@ fn velocities(motions: &MotionLanes) -> [WholeVelocity; 4]
     let [ay, by, cy, dy] = velocity.y.parts();
     let [a, b, c, d] = motions.spin.parts();
     [
-        WholeVelocity {
-            velocity: WholeVector { x: ax, y: ay },
+        ExactVelocity {
+            velocity: ExactVector { x: ax, y: ay },
             spin: a,
         },
-        WholeVelocity {
-            velocity: WholeVector { x: bx, y: by },
+        ExactVelocity {
+            velocity: ExactVector { x: bx, y: by },
             spin: b,
         },
-        WholeVelocity {
-            velocity: WholeVector { x: cx, y: cy },
+        ExactVelocity {
+            velocity: ExactVector { x: cx, y: cy },
             spin: c,
         },
-        WholeVelocity {
-            velocity: WholeVector { x: dx, y: dy },
+        ExactVelocity {
+            velocity: ExactVector { x: dx, y: dy },
             spin: d,
         },
     ]
@@ -222,7 +222,7 @@ impl ContactLanes {
             SeatState {
                 first: a,
                 second: e,
-                impulses: WholeImpulses {
+                impulses: ExactImpulses {
                     normal: an,
                     tangent: at,
                 },
@@ -230,7 +230,7 @@ impl ContactLanes {
             SeatState {
                 first: b,
                 second: f,
-                impulses: WholeImpulses {
+                impulses: ExactImpulses {
                     normal: bn,
                     tangent: bt,
                 },
@@ -238,7 +238,7 @@ impl ContactLanes {
             SeatState {
                 first: c,
                 second: g,
-                impulses: WholeImpulses {
+                impulses: ExactImpulses {
                     normal: cn,
                     tangent: ct,
                 },
@@ -246,7 +246,7 @@ impl ContactLanes {
             SeatState {
                 first: d,
                 second: h,
-                impulses: WholeImpulses {
+                impulses: ExactImpulses {
                     normal: dn,
                     tangent: dt,
                 },

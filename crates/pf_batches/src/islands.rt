@@ -5,16 +5,16 @@ ghost use Rattle.std.specs.Prelude.{OnOk, drop, length, map};
 ghost use Rattle.pf_rows.specs.Row.{IsSide, Row};
 ghost use Rattle.pf_rows.specs.Small.{AreWithin, IsShort};
 ghost use Rattle.pf_levels.specs.Levels.{ArePairsOf, pair_of};
-ghost use Rattle.pf_bundles.specs.Numbers.{Numbers};
+ghost use Rattle.pf_bundles.specs.Unknowns.{Unknowns};
 ghost use Rattle.pf_solver.specs.Alone.{batch_in};
 ghost use Rattle.pf_solver.specs.Beside.{IsBatch, shifted_side};
-ghost use Rattle.pf_batches.specs.Numbers.{AreNumbersOf, loaded_row, batch_numbers, velocity_of};
-ghost use Rattle.pf_batches.specs.Numbers.{with_impulses, with_velocities};
-ghost use Rattle.pf_batches.specs.Numbers.{AreAllWithin};
+ghost use Rattle.pf_batches.specs.Unknowns.{AreUnknownsOf, loaded_row, batch_unknowns, velocity_of};
+ghost use Rattle.pf_batches.specs.Unknowns.{with_impulses, with_velocities};
+ghost use Rattle.pf_batches.specs.Unknowns.{AreAllWithin};
 ghost use Rattle.pf_batches.specs.Islands.{AreBatches, AreHeldBy, batch_of};
-ghost use Rattle.pf_batches.specs.Islands.{island_with_first, islands_with_numbers, pairs_behind};
+ghost use Rattle.pf_batches.specs.Islands.{island_with_first, islands_with_unknowns, pairs_behind};
 
-use pf_bundles::{LaneRow, Numbers, WholeImpulses, WholeVelocity};
+use pf_bundles::{ExactImpulses, ExactVelocity, LaneRow, Unknowns};
 use pf_islands::Island;
 use pf_lanes::EXACT_LIMIT;
 use pf_levels::RowPair;
@@ -102,19 +102,19 @@ pub(crate) fn load_rows(islands: &[Island], lanes: &mut Vec<LaneRow>) -> Result<
 fn add_velocities(
     bodies: &[BodyState],
     limit: u64,
-    numbers: &mut Numbers,
+    unknowns: &mut Unknowns,
 ) -> Result<bool, AllocError>
     requires { limit ≤ EXACT_LIMIT }
     ensures value { IfOk result (λ all. IsTrue all
-        → numbers.new.velocities ≡ numbers.old.velocities ++ map velocity_of bodies.now) }
+        → unknowns.new.velocities ≡ unknowns.old.velocities ++ map velocity_of bodies.now) }
     ensures size { IfOk result (λ all. IsTrue all
-        → All (λ v. IsShort limit v.velocity) numbers.old.velocities
-        → All (λ v. IsShort limit v.velocity) numbers.new.velocities) }
-    ensures impulses { IfOk result (λ all. numbers.new.impulses ≡ numbers.old.impulses) }
+        → All (λ v. IsShort limit v.velocity) unknowns.old.velocities
+        → All (λ v. IsShort limit v.velocity) unknowns.new.velocities) }
+    ensures impulses { IfOk result (λ all. unknowns.new.impulses ≡ unknowns.old.impulses) }
 {
     for body in bodies {
-        match WholeVelocity::of(body.velocity, body.spin, limit) {
-            Some(velocity) => numbers.push_velocity(velocity)?,
+        match ExactVelocity::of(body.velocity, body.spin, limit) {
+            Some(velocity) => unknowns.push_velocity(velocity)?,
             None => return Ok(false),
         }
     }
@@ -122,18 +122,18 @@ fn add_velocities(
 }
 
 /// Adds the accumulated impulses of rows. Returns `false` where one is above `limit`.
-fn add_impulses(rows: &[Row], limit: u64, numbers: &mut Numbers) -> Result<bool, AllocError>
+fn add_impulses(rows: &[Row], limit: u64, unknowns: &mut Unknowns) -> Result<bool, AllocError>
     requires { limit ≤ EXACT_LIMIT }
     ensures value { IfOk result (λ all. IsTrue all
-        → numbers.new.impulses ≡ numbers.old.impulses ++ map (λ r. r.entry.impulses) rows.now) }
+        → unknowns.new.impulses ≡ unknowns.old.impulses ++ map (λ r. r.entry.impulses) rows.now) }
     ensures size { IfOk result (λ all. IsTrue all
-        → All (AreWithin limit) numbers.old.impulses
-        → All (AreWithin limit) numbers.new.impulses) }
-    ensures velocities { IfOk result (λ all. numbers.new.velocities ≡ numbers.old.velocities) }
+        → All (AreWithin limit) unknowns.old.impulses
+        → All (AreWithin limit) unknowns.new.impulses) }
+    ensures velocities { IfOk result (λ all. unknowns.new.velocities ≡ unknowns.old.velocities) }
 {
     for row in rows {
-        match WholeImpulses::of(&row.entry.impulses, limit) {
-            Some(whole) => numbers.push_impulses(whole)?,
+        match ExactImpulses::of(&row.entry.impulses, limit) {
+            Some(whole) => unknowns.push_impulses(whole)?,
             None => return Ok(false),
         }
     }
@@ -142,22 +142,22 @@ fn add_impulses(rows: &[Row], limit: u64, numbers: &mut Numbers) -> Result<bool,
 
 /// Loads the velocities and the accumulated impulses of islands side by side. Returns `false` where
 /// one is above `limit`, or doubles do not hold a spin.
-pub(crate) fn load_numbers(
+pub(crate) fn load_unknowns(
     islands: &[Island],
-    numbers: &mut Numbers,
+    unknowns: &mut Unknowns,
     limit: u64,
 ) -> Result<bool, AllocError>
     requires { limit ≤ EXACT_LIMIT }
     ensures value { IfOk result (λ all. IsTrue all
-        → numbers.new ≡ batch_numbers (batch_of islands.now)) }
-    ensures size { IfOk result (λ all. IsTrue all → AreAllWithin limit numbers.new) }
+        → unknowns.new ≡ batch_unknowns (batch_of islands.now)) }
+    ensures size { IfOk result (λ all. IsTrue all → AreAllWithin limit unknowns.new) }
 {
-    numbers.clear();
+    unknowns.clear();
     for island in islands {
-        if !add_velocities(island.bodies.as_slice(), limit, numbers)? {
+        if !add_velocities(island.bodies.as_slice(), limit, unknowns)? {
             return Ok(false);
         }
-        if !add_impulses(island.rows.as_slice(), limit, numbers)? {
+        if !add_impulses(island.rows.as_slice(), limit, unknowns)? {
             return Ok(false);
         }
     }
@@ -165,7 +165,7 @@ pub(crate) fn load_numbers(
 }
 
 /// Gives bodies these velocities.
-fn store_velocities(bodies: &mut [BodyState], velocities: &[WholeVelocity])
+fn store_velocities(bodies: &mut [BodyState], velocities: &[ExactVelocity])
     requires { length velocities.now ≡ length bodies.old }
     ensures { bodies.new ≡ with_velocities velocities.now bodies.old }
 {
@@ -186,7 +186,7 @@ fn set_impulses(row: &mut Row, impulses: Impulses)
 }
 
 /// Gives rows these accumulated impulses.
-fn store_impulses(rows: &mut [Row], impulses: &[WholeImpulses])
+fn store_impulses(rows: &mut [Row], impulses: &[ExactImpulses])
     requires { length impulses.now ≡ length rows.old }
     ensures { rows.new ≡ with_impulses impulses.now rows.old }
 {
@@ -195,12 +195,12 @@ fn store_impulses(rows: &mut [Row], impulses: &[WholeImpulses])
     }
 }
 
-/// Gives an island the numbers that stand behind so many velocities and so many impulses.
+/// Gives an island the unknowns that stand behind so many velocities and so many impulses.
 fn store_behind(
     bodies: usize,
-    velocities: &[WholeVelocity],
+    velocities: &[ExactVelocity],
     rows: usize,
-    impulses: &[WholeImpulses],
+    impulses: &[ExactImpulses],
     island: &mut Island,
 )
     requires velocities { bodies + length island.old.bodies ≤ length velocities.now }
@@ -221,12 +221,12 @@ fn store_behind(
 }
 
 /// Gives islands side by side these velocities and accumulated impulses.
-pub(crate) fn store_numbers(islands: &mut [Island], numbers: &Numbers)
-    requires { AreNumbersOf (batch_of islands.old) numbers.now }
-    ensures { islands.new ≡ islands_with_numbers numbers.now islands.old }
+pub(crate) fn store_unknowns(islands: &mut [Island], unknowns: &Unknowns)
+    requires { AreUnknownsOf (batch_of islands.old) unknowns.now }
+    ensures { islands.new ≡ islands_with_unknowns unknowns.now islands.old }
 {
-    let velocities = numbers.velocities();
-    let impulses = numbers.impulses();
+    let velocities = unknowns.velocities();
+    let impulses = unknowns.impulses();
     let (mut bodies, mut rows) = (0, 0);
     for island in islands.iter_mut() {
         store_behind(bodies, velocities, rows, impulses, island);

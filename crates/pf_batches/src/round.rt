@@ -27,7 +27,7 @@ use pf_lanes::Lanes;
 fn normal_pushes(prepared: &PreparedLanes, state: &ContactLanes) -> Option<Lanes>
     requires ready { (k : Lane)
         → IsReady (constraint_in k prepared.now.constraint) (state_in k prepared.now state.now) }
-    requires numbers { (k : Lane)
+    requires unknowns { (k : Lane)
         → IsContactWithin NUMBER_LIMIT (state_in k prepared.now state.now) }
     ensures added { IfSome result (λ added. (k : Lane) → number_in k added ≡ difference
         (normal_impulse (constraint_in k prepared.now.constraint)
@@ -134,7 +134,7 @@ fn after_push(
 fn after_normal_step(prepared: &PreparedLanes, state: &ContactLanes) -> Option<ContactLanes>
     requires ready { (k : Lane)
         → IsReady (constraint_in k prepared.now.constraint) (state_in k prepared.now state.now) }
-    requires numbers { (k : Lane)
+    requires unknowns { (k : Lane)
         → IsContactWithin NUMBER_LIMIT (state_in k prepared.now state.now) }
     ensures value { IfSome result (λ after. (k : Lane) → state_in k prepared.now after
         ≡ after_normal_step (constraint_in k prepared.now.constraint)
@@ -159,7 +159,7 @@ fn after_normal_step(prepared: &PreparedLanes, state: &ContactLanes) -> Option<C
 fn tangent_pushes(prepared: &PreparedLanes, state: &ContactLanes) -> Option<Lanes>
     requires ready { (k : Lane)
         → IsReady (constraint_in k prepared.now.constraint) (state_in k prepared.now state.now) }
-    requires numbers { (k : Lane)
+    requires unknowns { (k : Lane)
         → IsContactWithin (NUMBER_LIMIT + 2 ^ 30) (state_in k prepared.now state.now) }
     ensures added { IfSome result (λ added. (k : Lane) → number_in k added ≡ difference
         (tangent_impulse (constraint_in k prepared.now.constraint)
@@ -196,7 +196,7 @@ fn tangent_pushes(prepared: &PreparedLanes, state: &ContactLanes) -> Option<Lane
 fn after_friction_step(prepared: &PreparedLanes, state: &ContactLanes) -> Option<ContactLanes>
     requires ready { (k : Lane)
         → IsReady (constraint_in k prepared.now.constraint) (state_in k prepared.now state.now) }
-    requires numbers { (k : Lane)
+    requires unknowns { (k : Lane)
         → IsContactWithin (NUMBER_LIMIT + 2 ^ 30) (state_in k prepared.now state.now) }
     ensures value { IfSome result (λ after. (k : Lane) → state_in k prepared.now after
         ≡ after_friction_step (constraint_in k prepared.now.constraint)

@@ -2,16 +2,16 @@
 
 ghost use Rattle.std.specs.Prelude.{◌≡◌, ◌≤◌, IfSome};
 ghost use Rattle.pf_batches.specs.Contact.{IsSeatWithin, state_of};
-ghost use Rattle.pf_batches.specs.Numbers.{seat_state_from};
+ghost use Rattle.pf_batches.specs.Unknowns.{seat_state_from};
 
-use pf_bundles::{SeatState, WholeImpulses, WholeVelocity};
+use pf_bundles::{ExactImpulses, ExactVelocity, SeatState};
 use pf_lanes::EXACT_LIMIT;
 use pf_rows::InverseMass;
 use pf_solver::{ContactState, Motion};
 
 /// The motion of a body of this velocity and this mass.
 #[inline]
-fn motion_of(velocity: &WholeVelocity, mass: InverseMass) -> Motion
+fn motion_of(velocity: &ExactVelocity, mass: InverseMass) -> Motion
     ensures { result ≡ record {
       velocity = velocity.now.velocity;
       spin = velocity.now.spin;
@@ -25,7 +25,7 @@ fn motion_of(velocity: &WholeVelocity, mass: InverseMass) -> Motion
     }
 }
 
-/// The contact of these numbers, of bodies of these masses.
+/// The contact of these unknowns, of bodies of these masses.
 pub(crate) fn contact_of(
     state: &SeatState,
     first_mass: InverseMass,
@@ -40,7 +40,7 @@ pub(crate) fn contact_of(
     }
 }
 
-/// The numbers of a contact, or `None` where a velocity or an impulse is above `limit`, or doubles
+/// The unknowns of a contact, or `None` where a velocity or an impulse is above `limit`, or doubles
 /// do not hold a spin.
 pub(crate) fn seat_state_of(state: &ContactState, limit: u64) -> Option<SeatState>
     requires { limit ≤ EXACT_LIMIT }
@@ -49,8 +49,8 @@ pub(crate) fn seat_state_of(state: &ContactState, limit: u64) -> Option<SeatStat
 {
     let (first, second) = (&state.first, &state.second);
     Some(SeatState {
-        first: WholeVelocity::of(first.velocity, first.spin, limit)?,
-        second: WholeVelocity::of(second.velocity, second.spin, limit)?,
-        impulses: WholeImpulses::of(&state.impulses, limit)?,
+        first: ExactVelocity::of(first.velocity, first.spin, limit)?,
+        second: ExactVelocity::of(second.velocity, second.spin, limit)?,
+        impulses: ExactImpulses::of(&state.impulses, limit)?,
     })
 }

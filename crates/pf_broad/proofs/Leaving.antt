@@ -30,13 +30,13 @@ none_left enlarged bounds as_many none = record {
 }
 
 -- those of the listed bodies that left are all that did
-pub left-listed : (enlarged bounds : List Bounds) (moved : List ℕ) → AreBodies bounds moved → AreContained moved enlarged bounds
-    → (k : ℕ) → (not (contains (bounds_at enlarged k) (bounds_at bounds k)) && has_body moved k)
+pub left-listed : (enlarged bounds : List Bounds) (dirty : List ℕ) → AreBodies bounds dirty → AreContained dirty enlarged bounds
+    → (k : ℕ) → (not (contains (bounds_at enlarged k) (bounds_at bounds k)) && has_body dirty k)
     ≡ (not (contains (bounds_at enlarged k) (bounds_at bounds k)) && nat_lt k (length bounds))
-left-listed enlarged bounds moved are contained k =
-    same (contains (bounds_at enlarged k) (bounds_at bounds k)) (has_body moved k) (nat_lt k (length bounds))
+left-listed enlarged bounds dirty are contained k =
+    same (contains (bounds_at enlarged k) (bounds_at bounds k)) (has_body dirty k) (nat_lt k (length bounds))
     (λ other is. contained k (ltb-true k (length bounds) is) other)
-    (λ listed. (let below = All-has_body (λ j. j < length bounds) moved k are listed in grind (arith, nat_tests)))
+    (λ listed. (let below = All-has_body (λ j. j < length bounds) dirty k are listed in grind (arith, nat_tests)))
   where
     same : (c m n : Bool) → (m ≡ false → n ≡ true → c ≡ true) → (m ≡ true → n ≡ true) → (not c && m) ≡ (not c && n)
     same true m n within listed = refl

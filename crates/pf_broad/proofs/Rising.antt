@@ -105,7 +105,7 @@ IsUp-increasing (x ∷ xs) h = (
 -- a list of numbers, sorted, each once
 pub sorted_once : (p : ℕ → Bool) (n : ℕ) (xs ys : List ℕ) → ((j : ℕ) → has_body xs j ≡ (p j && nat_lt j n)) → IsPermutation xs ys → IsSorted nat_cmp ys
     → dedup eqb ys ≡ filter p (range_with_len 0 n)
-sorted_once p n xs ys has moved sorted =
+sorted_once p n xs ys has permuted sorted =
     same_up 0 (dedup eqb ys) (filter p (range_with_len 0 n)) (IsUp-increasing (dedup eqb ys) (IsStrictlyIncreasing-dedup ys sorted)) (IsUp-filter p 0 n)
-    (λ j. has_body-dedup ys j ∙ sym (list_any-IsPermutation (λ k. nat_eq k j) xs ys moved) ∙ has j
+    (λ j. has_body-dedup ys j ∙ sym (list_any-IsPermutation (λ k. nat_eq k j) xs ys permuted) ∙ has j
     ∙ sym (has_body-filter p (range_with_len 0 n) j ∙ ap (λ b. p j && b) (has_body-below n j)))

@@ -27,8 +27,8 @@ pub record AreEnlarged (enlarged bounds : List Bounds) : Type 0 where
 
 -- the enlarged bounds of each body that is not listed contain its bounds
 abbrev pub AreContained : List ℕ → List Bounds → List Bounds → Type 0
-AreContained moved enlarged bounds =
-    (k : ℕ) → k < length bounds → has_body moved k ≡ false
+AreContained dirty enlarged bounds =
+    (k : ℕ) → k < length bounds → has_body dirty k ≡ false
     → contains (bounds_at enlarged k) (bounds_at bounds k) ≡ true
 
 -- the bodies that left their enlarged bounds

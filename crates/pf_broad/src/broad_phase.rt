@@ -65,7 +65,7 @@ impl BroadPhase {
         self.candidates.as_slice()
     }
 
-    /// Enlarged bounds that contain these, and their pairs. Bodies that are not in `moved` must
+    /// Enlarged bounds that contain these, and their pairs. Bodies that are not in `dirty` must
     /// still be within their enlarged bounds. `bodies` decides only how far bounds are enlarged, by
     /// how fast each body moves. Where at most 16 bodies have left their enlarged bounds, only
     /// these get new ones, and only their pairs are searched for.
@@ -76,12 +76,12 @@ impl BroadPhase {
         alloc: Global,
         bounds: &[Bounds],
         bodies: &[BodyState],
-        moved: &[usize],
+        dirty: &[usize],
     ) -> Result<bool, AllocError>
         requires bodies { length bodies.now ≡ length bounds.now }
-        requires moved { AreBodies bounds.now moved.now }
+        requires dirty { AreBodies bounds.now dirty.now }
         requires others { length self.old ≡ length bounds.now
-            → AreContained moved.now self.old bounds.now }
+            → AreContained dirty.now self.old bounds.now }
         requires few { length bounds.now ≤ MAX_BODIES }
         requires ordered { All IsOrdered bounds.now }
         ensures enlarged { OnOk result (AreEnlarged self.new bounds.now) }
@@ -93,7 +93,7 @@ impl BroadPhase {
             *self = BroadPhase::of(alloc, bounds, bodies)?;
             return Ok(false);
         }
-        let left = left_bodies(alloc, &kept.enlarged, bounds, moved)?;
+        let left = left_bodies(alloc, &kept.enlarged, bounds, dirty)?;
         if left.is_empty() {
             *self = kept;
             return Ok(true);

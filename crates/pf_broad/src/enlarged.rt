@@ -90,23 +90,23 @@ pub(crate) fn all_enlarged_bounds(
     Ok(enlarged)
 }
 
-/// The bodies that left their enlarged bounds, in ascending order. Only those of `moved` are looked
+/// The bodies that left their enlarged bounds, in ascending order. Only those of `dirty` are looked
 /// at: the others must be within theirs.
 #[inline(never)]
 pub(crate) fn left_bodies(
     alloc: Global,
     enlarged: &[Bounds],
     bounds: &[Bounds],
-    moved: &[usize],
+    dirty: &[usize],
 ) -> Result<Vec<u16>, AllocError>
     requires few { length bounds.now ≤ MAX_BODIES }
     requires enlarged { length enlarged.now ≡ length bounds.now }
-    requires moved { AreBodies bounds.now moved.now }
-    requires others { AreContained moved.now enlarged.now bounds.now }
+    requires dirty { AreBodies bounds.now dirty.now }
+    requires others { AreContained dirty.now enlarged.now bounds.now }
     ensures { IfOk result (λ left. left.items ≡ left_bodies enlarged.now bounds.now) }
 {
     let mut left = Vec::new(alloc);
-    for number in moved {
+    for number in dirty {
         if !contains(&enlarged[*number], &bounds[*number]) {
             left.push(*number as u16)?;
         }

@@ -1,4 +1,4 @@
--- Numbers of lanes: how they stand behind the first place, and which lanes have a row.
+-- Unknowns of lanes: how they stand behind the first place, and which lanes have a row.
 use Rattle.std.proofs.Common.{◌≡◌, ℕ, zero, suc, ◌<◌, ◌≤◌, List, [], ◌∷◌, All, length, map, refl, sym, ap, subst, arith}
 use Rattle.std.specs.Prelude.{IfSome, None, Option, Some, drop, slice_get, slice_index_or, slice_set}
 use Rattle.pf_rows.specs.Impulses.{Impulses, no_impulses}
@@ -9,8 +9,8 @@ use Rattle.pf_lanes.specs.Lanes.{First, Fourth, Lane, Second, Third}
 use Rattle.pf_levels.specs.Levels.{RowPair}
 use Rattle.pf_bundles.specs.Bundle.{Seat, lane_row_or, row_of_lane, seat_at}
 use Rattle.pf_bundles.specs.LaneRow.{LaneRow, row_in}
-use Rattle.pf_bundles.specs.Numbers.{Numbers, Velocity, no_velocity}
-use Rattle.pf_bundles.specs.Seats.{AreAllFree, AreFirst, HasSeatIn, HaveFirst, IsSeatIn, SeatState, numbers_behind_first, numbers_with_all, numbers_with_lane, numbers_with_lanes, seat_or, side_index, taken_seats, velocity_at, with_velocity}
+use Rattle.pf_bundles.specs.Unknowns.{Unknowns, Velocity, no_velocity}
+use Rattle.pf_bundles.specs.Seats.{AreAllFree, AreFirst, HasSeatIn, HaveFirst, IsSeatIn, SeatState, unknowns_behind_first, unknowns_with_all, unknowns_with_lane, unknowns_with_lanes, seat_or, side_index, taken_seats, velocity_at, with_velocity}
 
 -- ---- reading
 
@@ -35,19 +35,19 @@ impulses_stored (x ∷ xs) place p h = refl
 
 -- ---- lanes with a row are the first ones
 
-free_seats : (seats : List (Option Seat)) (states : List SeatState) (n : Numbers) → AreAllFree seats → numbers_with_lanes seats states n ≡ n
+free_seats : (seats : List (Option Seat)) (states : List SeatState) (n : Unknowns) → AreAllFree seats → unknowns_with_lanes seats states n ≡ n
 free_seats [] states n h = refl
 free_seats (None ∷ seats) [] n h = refl
 free_seats (None ∷ seats) (s ∷ states) n h = free_seats seats states n h
 free_seats (Some seat ∷ seats) states n h = absurd h
 
-pub stored_taken : (seats : List (Option Seat)) (states : List SeatState) (n : Numbers) → AreFirst seats
-    → numbers_with_lanes seats states n ≡ numbers_with_all (taken_seats seats) states n
+pub stored_taken : (seats : List (Option Seat)) (states : List SeatState) (n : Unknowns) → AreFirst seats
+    → unknowns_with_lanes seats states n ≡ unknowns_with_all (taken_seats seats) states n
 stored_taken [] states n h = refl
 stored_taken (None ∷ seats) [] n h = refl
 stored_taken (None ∷ seats) (s ∷ states) n h = free_seats seats states n h
 stored_taken (Some seat ∷ seats) [] n h = refl
-stored_taken (Some seat ∷ seats) (s ∷ states) n h = stored_taken seats states (numbers_with_lane (Some seat) s n) h
+stored_taken (Some seat ∷ seats) (s ∷ states) n h = stored_taken seats states (unknowns_with_lane (Some seat) s n) h
 
 no_seat_at : (seats : List (Option Seat)) (k : ℕ) → AreAllFree seats → slice_index_or seats k None ≡ None
 no_seat_at [] k h = refl
@@ -85,11 +85,11 @@ module _ (P : Seat → Type 0) (d : Option Seat) where
   taken_each (Some seat ∷ seats) zero h first all = all 0 seat (omega arith)
   taken_each (Some seat ∷ seats) (suc k) h first all = taken_each seats k (omega (arith, h)) first (λ j e l. all (suc j) e (omega (arith, l)))
 
-pub has_seat : (n : Numbers) (seats : List (Option Seat)) (k : ℕ) (d : Option Seat) → k < length seats → AreFirst seats → All (IsSeatIn n) (taken_seats seats)
+pub has_seat : (n : Unknowns) (seats : List (Option Seat)) (k : ℕ) (d : Option Seat) → k < length seats → AreFirst seats → All (IsSeatIn n) (taken_seats seats)
     → HasSeatIn n (slice_index_or seats k d)
 has_seat n seats k d h first all = taken_each (IsSeatIn n) d seats k h first all
 
--- a seat stays where there are as many numbers
+-- a seat stays where there are as many unknowns
 behind_length : {A : Type 0} (xs ys : List A) → length xs ≡ length ys → length (drop 1 xs) ≡ length (drop 1 ys)
 behind_length [] [] h = refl
 behind_length [] (y ∷ ys) h = absurd (omega (arith, h))
@@ -97,7 +97,7 @@ behind_length (x ∷ xs) [] h = absurd (omega (arith, h))
 behind_length (x ∷ xs) (y ∷ ys) h = omega (arith, h)
 
 pub seat_kept : (vs ws : List Velocity) (ps qs : List Impulses) (seat : Option Seat) → length ws ≡ length vs → length qs ≡ length ps
-    → HasSeatIn (numbers_behind_first vs ps) seat → HasSeatIn (numbers_behind_first ws qs) seat
+    → HasSeatIn (unknowns_behind_first vs ps) seat → HasSeatIn (unknowns_behind_first ws qs) seat
 seat_kept vs ws ps qs None velocities impulses h = tt
 seat_kept vs ws ps qs (Some seat) velocities impulses h = record {
   place = subst (λ n. seat.place < n) (sym (behind_length qs ps impulses)) h.place;
@@ -114,7 +114,7 @@ first_cleared (v ∷ velocities) [] h k = absurd (omega (arith, k))
 first_cleared (v ∷ velocities) (p ∷ impulses) h k = record { velocities = refl; impulses = refl }
 
 pub rest_kept : (velocities : List Velocity) (impulses : List Impulses) (v : Velocity) (p : Impulses)
-    → numbers_behind_first (slice_set velocities 0 v) (slice_set impulses 0 p) ≡ numbers_behind_first velocities impulses
+    → unknowns_behind_first (slice_set velocities 0 v) (slice_set impulses 0 p) ≡ unknowns_behind_first velocities impulses
 rest_kept [] [] v p = refl
 rest_kept [] (y ∷ impulses) v p = refl
 rest_kept (x ∷ velocities) [] v p = refl

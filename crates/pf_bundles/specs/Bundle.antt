@@ -7,7 +7,7 @@ use Rattle.pf_levels.specs.Levels.{RowPair}
 use Rattle.pf_bundles.specs.LaneRow.{LaneRow, lane_row_in, no_lane_row}
 use Rattle.pf_bundles.specs.Prepared.{PreparedLanes}
 
--- where the numbers of a row stand: its place among the rows, and the sides of its bodies
+-- where the unknowns of a row stand: its place among the rows, and the sides of its bodies
 pub record Seat : Type 0 where
   pub place : ℕ
   pub first : Side

@@ -3,5 +3,5 @@ pub mod Limits
 pub mod Prepared
 pub mod LaneRow
 pub mod Bundle
-pub mod Numbers
+pub mod Unknowns
 pub mod Seats

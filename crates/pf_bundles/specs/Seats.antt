@@ -1,4 +1,4 @@
--- Seats: where the numbers of a row stand among those of all bodies and rows, how they are read
+-- Seats: where the unknowns of a row stand among those of all bodies and rows, how they are read
 -- there, and how they are stored.
 use Rattle.std.specs.Prelude.{◌≡◌, ◌<◌, ◌≤◌, ⊤, ℕ, zero, suc, List, [], ◌∷◌, IfSome, None, Option, Some}
 use Rattle.std.specs.Prelude.{drop, length, slice_index_or, slice_set}
@@ -10,9 +10,9 @@ use Rattle.pf_rows.specs.declared.row.Side.TheVariants.{Dynamic, Static}
 use Rattle.pf_levels.specs.Levels.{RowPair}
 use Rattle.pf_levels.specs.declared.level.TheConstants.{WIDTH}
 use Rattle.pf_bundles.specs.Bundle.{Seat, lane_number, seat_at}
-use Rattle.pf_bundles.specs.Numbers.{Numbers, Velocity, no_velocity}
+use Rattle.pf_bundles.specs.Unknowns.{Unknowns, Velocity, no_velocity}
 
--- ---- the numbers of a row
+-- ---- the unknowns of a row
 
 -- the bodies of a row by their velocities, and its accumulated impulses
 pub record SeatState : Type 0 where
@@ -34,49 +34,49 @@ abbrev pub with_velocity : List Velocity → Side → Velocity → List Velocity
 with_velocity velocities Static v = velocities
 with_velocity velocities (Dynamic place) v = slice_set velocities place v
 
--- the numbers have the bodies and the impulses of a seat
-pub record IsSeatIn (n : Numbers) (seat : Seat) : Type 0 where
+-- the unknowns have the bodies and the impulses of a seat
+pub record IsSeatIn (n : Unknowns) (seat : Seat) : Type 0 where
   pub place : seat.place < length n.impulses
   pub first : IsSide (length n.velocities) seat.first
   pub second : IsSide (length n.velocities) seat.second
 
--- the numbers of a row
-abbrev pub seat_state_at : Numbers → Seat → SeatState
+-- the unknowns of a row
+abbrev pub seat_state_at : Unknowns → Seat → SeatState
 seat_state_at n seat = record {
   first = velocity_at n.velocities seat.first;
   second = velocity_at n.velocities seat.second;
   impulses = slice_index_or n.impulses seat.place no_impulses;
 }
 
--- the numbers of a lane that has this seat, if it has one
-abbrev pub seat_state_or : Numbers → Option Seat → SeatState
+-- the unknowns of a lane that has this seat, if it has one
+abbrev pub seat_state_or : Unknowns → Option Seat → SeatState
 seat_state_or n None = no_seat_state
 seat_state_or n (Some seat) = seat_state_at n seat
 
--- the numbers after those of a row are stored: the first body, and then the second
-abbrev pub numbers_with : Seat → SeatState → Numbers → Numbers
-numbers_with seat s n = record {
+-- the unknowns after those of a row are stored: the first body, and then the second
+abbrev pub unknowns_with : Seat → SeatState → Unknowns → Unknowns
+unknowns_with seat s n = record {
   velocities =
       with_velocity (with_velocity n.velocities seat.first s.first) seat.second s.second;
   impulses = slice_set n.impulses seat.place s.impulses;
 }
 
 -- the same of several rows, one after the other
-abbrev pub numbers_with_all : List Seat → List SeatState → Numbers → Numbers
-numbers_with_all [] states n = n
-numbers_with_all (seat ∷ seats) [] n = n
-numbers_with_all (seat ∷ seats) (s ∷ states) n =
-    numbers_with_all seats states (numbers_with seat s n)
+abbrev pub unknowns_with_all : List Seat → List SeatState → Unknowns → Unknowns
+unknowns_with_all [] states n = n
+unknowns_with_all (seat ∷ seats) [] n = n
+unknowns_with_all (seat ∷ seats) (s ∷ states) n =
+    unknowns_with_all seats states (unknowns_with seat s n)
 
--- as many numbers are there before and after a row is stored
-pub record AreAsMany (before after : Numbers) : Type 0 where
+-- as many unknowns are there before and after a row is stored
+pub record AreAsMany (before after : Unknowns) : Type 0 where
   pub velocities : length after.velocities ≡ length before.velocities
   pub impulses : length after.impulses ≡ length before.impulses
 
 -- ---- seats of lanes, of which some may have no row
 
--- the numbers have the bodies and the impulses of a lane that has this seat, if it has one
-abbrev pub HasSeatIn : Numbers → Option Seat → Type 0
+-- the unknowns have the bodies and the impulses of a lane that has this seat, if it has one
+abbrev pub HasSeatIn : Unknowns → Option Seat → Type 0
 HasSeatIn n seat = IfSome seat (IsSeatIn n)
 
 -- the seat of a lane
@@ -111,17 +111,17 @@ taken_seats [] = []
 taken_seats (None ∷ seats) = []
 taken_seats (Some seat ∷ seats) = seat ∷ taken_seats seats
 
--- the numbers after those of a lane are stored, if it has a row
-abbrev pub numbers_with_lane : Option Seat → SeatState → Numbers → Numbers
-numbers_with_lane None s n = n
-numbers_with_lane (Some seat) s n = numbers_with seat s n
+-- the unknowns after those of a lane are stored, if it has a row
+abbrev pub unknowns_with_lane : Option Seat → SeatState → Unknowns → Unknowns
+unknowns_with_lane None s n = n
+unknowns_with_lane (Some seat) s n = unknowns_with seat s n
 
 -- the same of several lanes, one after the other
-abbrev pub numbers_with_lanes : List (Option Seat) → List SeatState → Numbers → Numbers
-numbers_with_lanes [] states n = n
-numbers_with_lanes (seat ∷ seats) [] n = n
-numbers_with_lanes (seat ∷ seats) (s ∷ states) n =
-    numbers_with_lanes seats states (numbers_with_lane seat s n)
+abbrev pub unknowns_with_lanes : List (Option Seat) → List SeatState → Unknowns → Unknowns
+unknowns_with_lanes [] states n = n
+unknowns_with_lanes (seat ∷ seats) [] n = n
+unknowns_with_lanes (seat ∷ seats) (s ∷ states) n =
+    unknowns_with_lanes seats states (unknowns_with_lane seat s n)
 
 -- ---- where they stand: the first place is that of static bodies, and of lanes without a row
 
@@ -160,9 +160,9 @@ pub record AreIndices (r f s : ℕ) : Type 0 where
   pub first : first_index (seat_with r f s) ≡ f
   pub second : second_index (seat_with r f s) ≡ s
 
--- the numbers behind the first place
-abbrev pub numbers_behind_first : List Velocity → List Impulses → Numbers
-numbers_behind_first velocities impulses = record {
+-- the unknowns behind the first place
+abbrev pub unknowns_behind_first : List Velocity → List Impulses → Unknowns
+unknowns_behind_first velocities impulses = record {
   velocities = drop 1 velocities;
   impulses = drop 1 impulses;
 }

@@ -6,16 +6,16 @@ ghost use Rattle.pf_rows.specs.Small.{HasShortArms, IsShort};
 ghost use Rattle.pf_bundles.specs.LaneRow.{arm_on, mass_on};
 ghost use Rattle.pf_bundles.specs.Limits.{IsPushLimit, IsPushLimitOf, IsSmallConstraint, IsSpinLimit, IsTriedPush, IsTriedSpin, arm_reach};
 
+use crate::exact::{
+    ExactConstraint, ExactMass, exact_constraint_of, exact_mass_of, fixed_constraint_of,
+    fixed_mass_of, no_constraint, no_mass,
+};
 use crate::limits::{
     HALF_ARM, HALF_ARM_SPIN, LANE_DIRECTION_LIMIT, LANE_LIMIT, LEAST_PUSH, LONG_ARM, LONG_ARM_SPIN,
     LONGEST_ARM, LONGEST_ARM_SPIN, MIDDLE_ARM, MIDDLE_ARM_SPIN, MIDDLE_PUSH, NUMBER_LIMIT,
     PRODUCT_LIMIT, QUARTER_ARM, QUARTER_ARM_SPIN, SHORT_ARM, SHORT_ARM_SPIN, SMALL_PUSH,
 };
-use crate::whole::{
-    WholeConstraint, WholeMass, fixed_constraint_of, fixed_mass_of, no_constraint, no_mass,
-    whole_constraint_of, whole_mass_of,
-};
-use pf_lanes::WholeNumber;
+use pf_lanes::ExactDouble;
 use pf_num::Fx;
 use pf_rot::V2;
 use pf_rows::{Constraint, InverseMass, Prepared, Row, Side, is_within};
@@ -24,11 +24,11 @@ use std::marker::Model;
 /// What a lane holds of a row, in whole numbers that are doubles.
 #[derive(Clone, Copy)]
 pub struct LaneRow {
-    pub(crate) first_mass: WholeMass,
-    pub(crate) second_mass: WholeMass,
-    pub(crate) constraint: WholeConstraint,
-    pub(crate) spin_limit: WholeNumber,
-    pub(crate) push_limit: WholeNumber,
+    pub(crate) first_mass: ExactMass,
+    pub(crate) second_mass: ExactMass,
+    pub(crate) constraint: ExactConstraint,
+    pub(crate) spin_limit: ExactDouble,
+    pub(crate) push_limit: ExactDouble,
 }
 
 impl Model for LaneRow {
@@ -224,8 +224,8 @@ impl LaneRow {
             first_mass: no_mass(),
             second_mass: no_mass(),
             constraint: no_constraint(),
-            spin_limit: WholeNumber::of(QUARTER_ARM_SPIN as i64),
-            push_limit: WholeNumber::of(LANE_LIMIT as i64),
+            spin_limit: ExactDouble::of(QUARTER_ARM_SPIN as i64),
+            push_limit: ExactDouble::of(LANE_LIMIT as i64),
         }
     }
 
@@ -252,11 +252,11 @@ impl LaneRow {
         let spin = spin_limit_of(constraint)?;
         let push = push_limit_of(constraint, first_mass, second_mass, spin)?;
         Some(LaneRow {
-            first_mass: whole_mass_of(*first_mass)?,
-            second_mass: whole_mass_of(*second_mass)?,
-            constraint: whole_constraint_of(constraint)?,
-            spin_limit: WholeNumber::of(spin as i64),
-            push_limit: WholeNumber::of(push as i64),
+            first_mass: exact_mass_of(*first_mass)?,
+            second_mass: exact_mass_of(*second_mass)?,
+            constraint: exact_constraint_of(constraint)?,
+            spin_limit: ExactDouble::of(spin as i64),
+            push_limit: ExactDouble::of(push as i64),
         })
     }
 

@@ -4,21 +4,21 @@
 #![tactic(auto)]
 
 mod bundle;
+mod exact;
 mod lane_row;
 pub mod laws;
 pub mod limits;
-mod numbers;
 mod prepared;
 mod seat;
+mod unknowns;
 mod vectors;
-mod whole;
 mod workspace;
 
 pub use bundle::{Bundle, load_bundles};
+pub use exact::{ExactConstraint, ExactMass, ExactVector};
 pub use lane_row::LaneRow;
-pub use numbers::{Numbers, SeatState, WholeImpulses, WholeVelocity};
 pub use prepared::{ConstraintLanes, MassLanes, PreparedLanes};
 pub use seat::LaneSeat;
+pub use unknowns::{ExactImpulses, ExactVelocity, SeatState, Unknowns};
 pub use vectors::{ScaledVectors, VectorLanes};
-pub use whole::{WholeConstraint, WholeMass, WholeVector};
 pub use workspace::Workspace;

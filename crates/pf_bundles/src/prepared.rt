@@ -4,9 +4,9 @@ ghost use Rattle.std.specs.Prelude.{◌≡◌};
 ghost use Rattle.pf_lanes.specs.Lanes.{First, Fourth, Second, Third};
 ghost use Rattle.pf_bundles.specs.Prepared.{constraint_in, mass_in, vector_in};
 
+use crate::exact::{ExactConstraint, ExactMass, ExactVector};
 use crate::lane_row::LaneRow;
 use crate::vectors::ScaledVectors;
-use crate::whole::{WholeConstraint, WholeMass, WholeVector};
 use pf_lanes::{Lanes, Scaled};
 use pf_rows::{Constraint, InverseMass};
 use std::marker::Model;
@@ -111,10 +111,10 @@ impl PreparedLanes {
 /// Vectors, one in each lane.
 #[inline]
 fn vectors(
-    first: WholeVector,
-    second: WholeVector,
-    third: WholeVector,
-    fourth: WholeVector,
+    first: ExactVector,
+    second: ExactVector,
+    third: ExactVector,
+    fourth: ExactVector,
 ) -> ScaledVectors
     ensures first { vector_in First result ≡ first }
     ensures second { vector_in Second result ≡ second }
@@ -129,7 +129,7 @@ fn vectors(
 
 /// Inverse masses, one in each lane.
 #[inline]
-fn masses(first: WholeMass, second: WholeMass, third: WholeMass, fourth: WholeMass) -> MassLanes
+fn masses(first: ExactMass, second: ExactMass, third: ExactMass, fourth: ExactMass) -> MassLanes
     ensures first { mass_in First result ≡ first }
     ensures second { mass_in Second result ≡ second }
     ensures third { mass_in Third result ≡ third }
@@ -154,10 +154,10 @@ fn masses(first: WholeMass, second: WholeMass, third: WholeMass, fourth: WholeMa
 /// Constraints, one in each lane.
 #[inline]
 fn constraints(
-    first: &WholeConstraint,
-    second: &WholeConstraint,
-    third: &WholeConstraint,
-    fourth: &WholeConstraint,
+    first: &ExactConstraint,
+    second: &ExactConstraint,
+    third: &ExactConstraint,
+    fourth: &ExactConstraint,
 ) -> ConstraintLanes
     ensures first { constraint_in First result ≡ first.now }
     ensures second { constraint_in Second result ≡ second.now }

@@ -1,4 +1,4 @@
-//! Where the numbers of rows stand among those of all bodies and rows.
+//! Where the unknowns of rows stand among those of all bodies and rows.
 
 ghost use Rattle.std.specs.Prelude.{◌≡◌, ◌-◌, ◌^◌};
 ghost use Rattle.pf_rows.specs.Row.{IsSide};
@@ -8,7 +8,7 @@ use pf_levels::RowPair;
 use pf_rows::Side;
 use std::marker::Model;
 
-/// Where the numbers of a lane's row stand among [`crate::Numbers`]. The first place there is that
+/// Where the unknowns of a lane's row stand among [`crate::Unknowns`]. The first place there is that
 /// of static bodies, and of lanes without a row.
 ///
 /// Contracts see the sides of its bodies and its place among the rows, if it has a row.

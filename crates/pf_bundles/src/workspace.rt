@@ -4,7 +4,7 @@ ghost use Rattle.std.specs.Prelude.{◌≡◌, [], None};
 
 use crate::bundle::Bundle;
 use crate::lane_row::LaneRow;
-use crate::numbers::Numbers;
+use crate::unknowns::Unknowns;
 use pf_levels::{Levels, Overlap, RowPair};
 use std::alloc::Global;
 use std::fmt::{Debug, Error, Formatter, Write};
@@ -27,7 +27,7 @@ pub struct Workspace {
     pub overlap_bundles: Vec<Bundle>,
     /// The velocities of all bodies, and the accumulated impulses of all rows, once they were
     /// needed.
-    pub numbers: Option<Numbers>,
+    pub unknowns: Option<Unknowns>,
 }
 
 impl Debug for Workspace {
@@ -45,7 +45,7 @@ impl Workspace {
         ensures rows { result.rows.items ≡ [] }
         ensures bundles { result.bundles.items ≡ [] }
         ensures overlap_bundles { result.overlap_bundles.items ≡ [] }
-        ensures numbers { result.numbers ≡ None }
+        ensures unknowns { result.unknowns ≡ None }
     {
         Workspace {
             pairs: Vec::new(alloc),
@@ -54,7 +54,7 @@ impl Workspace {
             rows: Vec::new(alloc),
             bundles: Vec::new(alloc),
             overlap_bundles: Vec::new(alloc),
-            numbers: None,
+            unknowns: None,
         }
     }
 }

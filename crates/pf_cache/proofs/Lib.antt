@@ -7,7 +7,7 @@ pub mod Kept
 pub mod FoundRows
 pub mod Stored
 pub mod Restoring
-pub mod Editing
+pub mod Splicing
 pub mod Found
 pub mod Unmoved
 pub mod Reusable
@@ -23,7 +23,7 @@ pub mod PlacedPoints
 pub mod SlotPlaces
 pub mod Watching
 pub mod Refreshing
-pub mod EditsMade
+pub mod SplicesMade
 pub mod Filling
 pub mod FewTouches
 pub mod RefreshSteps

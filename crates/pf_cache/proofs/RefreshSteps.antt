@@ -9,9 +9,9 @@ use Rattle.pf_broad.specs.Pairs.{pair_may_touch}
 use Rattle.pf_manifold.specs.Key.{Key, key_of}
 use Rattle.pf_manifold.specs.PlacedShape.{PlacedShape}
 use Rattle.pf_cache.specs.declared.slot.SlotPlace.{SlotPlace}
-use Rattle.pf_cache.specs.KeyEdits.{AreEditsBetween, AreEditsUpTo, KeyEdits}
+use Rattle.pf_cache.specs.KeySplices.{AreSplicesBetween, AreSplicesUpTo, KeySplices}
 use Rattle.pf_cache.specs.Slots.{Slot, pairs_to_compute, needs_points, is_stale, refreshed_slot, slot_touches}
-use Rattle.pf_cache.proofs.EditsMade.{edits_stay, keys-append, keys_more, keys_of}
+use Rattle.pf_cache.proofs.SplicesMade.{splices_stay, keys-append, keys_more, keys_of}
 use Rattle.pf_cache.proofs.Refreshing.{pairs_next, refreshed_stays, same_front, slot_here, slots_more}
 use Rattle.pf_cache.proofs.SlotPlaces.{AtNext, Walked, slot_next, within_next}
 use Rattle.pf_cache.proofs.Updating.{ascend_after}
@@ -23,12 +23,12 @@ module _ (bounds : List Bounds) (unmoved : List Bool) (shapes : List PlacedShape
   now = refreshed_slot bounds unmoved shapes
 
   -- those that are left are up to date
-  pub edits_in_the_end : (e : KeyEdits) (kept : ℕ) (slots : List Slot) → AreEditsUpTo e kept (keys_of w.front) (keys_of (map now w.front))
-      → slots ≡ map now w.front ++ w.rest → AreEditsBetween e (keys_of old) (keys_of slots)
-  edits_in_the_end e kept slots so_far are =
-      let stay = edits_stay e kept (length (keys_of w.rest)) (keys_of w.front) (keys_of (map now w.front)) (keys_of w.rest) so_far refl in
-      subst (λ ks. AreEditsBetween e ks (keys_of slots)) (sym (ap keys_of w.whole ∙ keys-append w.front w.rest))
-      (subst (AreEditsBetween e (keys_of w.front ++ keys_of w.rest)) (sym (ap keys_of are ∙ keys-append (map now w.front) w.rest)) stay.0)
+  pub splices_in_the_end : (e : KeySplices) (kept : ℕ) (slots : List Slot) → AreSplicesUpTo e kept (keys_of w.front) (keys_of (map now w.front))
+      → slots ≡ map now w.front ++ w.rest → AreSplicesBetween e (keys_of old) (keys_of slots)
+  splices_in_the_end e kept slots so_far are =
+      let stay = splices_stay e kept (length (keys_of w.rest)) (keys_of w.front) (keys_of (map now w.front)) (keys_of w.rest) so_far refl in
+      subst (λ ks. AreSplicesBetween e ks (keys_of slots)) (sym (ap keys_of w.whole ∙ keys-append w.front w.rest))
+      (subst (AreSplicesBetween e (keys_of w.front ++ keys_of w.rest)) (sym (ap keys_of are ∙ keys-append (map now w.front) w.rest)) stay.0)
 
   module _ (l : SlotPlace) (at : AtNext (is_stale bounds unmoved) places old i w.front w.rest l) where
     pub pair_here : (n : ℕ) → All (λ s. IsPairOf n s.pair) old → IsPairOf n at.slot.pair
@@ -55,12 +55,12 @@ module _ (bounds : List Bounds) (unmoved : List Bool) (shapes : List PlacedShape
       pub slots_now : (s : Slot) → s ≡ now at.slot → slice_set slots l.place s ≡ map now ((w.front ++ at.others) ++ at.slot ∷ []) ++ at.behind
       slots_now = slots_more now (is_stale bounds unmoved) (refreshed_stays bounds unmoved shapes) w.front at.others at.fail at.slot at.behind slots slots_are l.place at.place_is
 
-    pub edits_now : (e next : KeyEdits) (kept behind : ℕ) (s : Slot) → AreEditsUpTo e kept (keys_of w.front) (keys_of (map now w.front)) → s ≡ now at.slot
-        → ((before after : List Key) → AreEditsUpTo e (kept + l.skipped) before after
-        → AreEditsUpTo next behind (before ++ map key_of (slot_touches at.slot)) (after ++ map key_of (slot_touches s)))
-        → AreEditsUpTo next behind (keys_of ((w.front ++ at.others) ++ at.slot ∷ [])) (keys_of (map now ((w.front ++ at.others) ++ at.slot ∷ [])))
-    edits_now e next kept behind s so_far s_is more =
-        let stay = edits_stay e kept l.skipped (keys_of w.front) (keys_of (map now w.front)) (keys_of at.others) so_far
+    pub splices_now : (e next : KeySplices) (kept behind : ℕ) (s : Slot) → AreSplicesUpTo e kept (keys_of w.front) (keys_of (map now w.front)) → s ≡ now at.slot
+        → ((before after : List Key) → AreSplicesUpTo e (kept + l.skipped) before after
+        → AreSplicesUpTo next behind (before ++ map key_of (slot_touches at.slot)) (after ++ map key_of (slot_touches s)))
+        → AreSplicesUpTo next behind (keys_of ((w.front ++ at.others) ++ at.slot ∷ [])) (keys_of (map now ((w.front ++ at.others) ++ at.slot ∷ [])))
+    splices_now e next kept behind s so_far s_is more =
+        let stay = splices_stay e kept l.skipped (keys_of w.front) (keys_of (map now w.front)) (keys_of at.others) so_far
         (at.skipped_is ∙ sym (length-map (flat_map slot_touches at.others) key_of)) in
         let made = more (keys_of w.front ++ keys_of at.others) (keys_of (map now w.front) ++ keys_of at.others) stay in
         let before : (keys_of w.front ++ keys_of at.others) ++ map key_of (slot_touches at.slot) ≡ keys_of ((w.front ++ at.others) ++ at.slot ∷ []) =
@@ -71,5 +71,5 @@ module _ (bounds : List Bounds) (unmoved : List Bool) (shapes : List PlacedShape
         ∙ ap keys_of
         (sym (map-append now (w.front ++ at.others) (at.slot ∷ [])
         ∙ ap (λ r. r ++ now at.slot ∷ []) (same_front now (is_stale bounds unmoved) (refreshed_stays bounds unmoved shapes) w.front at.others at.fail))) in
-        subst (λ ks. AreEditsUpTo next behind ks (keys_of (map now ((w.front ++ at.others) ++ at.slot ∷ [])))) before
-        (subst (AreEditsUpTo next behind ((keys_of w.front ++ keys_of at.others) ++ map key_of (slot_touches at.slot))) after made)
+        subst (λ ks. AreSplicesUpTo next behind ks (keys_of (map now ((w.front ++ at.others) ++ at.slot ∷ [])))) before
+        (subst (AreSplicesUpTo next behind ((keys_of w.front ++ keys_of at.others) ++ map key_of (slot_touches at.slot))) after made)

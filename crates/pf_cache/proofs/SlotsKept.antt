@@ -242,14 +242,14 @@ module _ (enlarged old : List Bounds) (stood : List PlacedShape) (kept : List Sl
         (sym ((λ k. flag_at stood shapes p.a k && flag_at stood shapes p.b k)) ∙ sym (ap (λ fs. are_unmoved fs p) flags) ∙ still))
 
     -- where both bodies stand as they stood, it has points exactly where the bounds overlap
-    pub stayed : (bounds : List Bounds) (shapes : List PlacedShape) (unmoved flags : List Bool) (before count : ℕ) (moved : List ℕ) → p.b < count
+    pub stayed : (bounds : List Bounds) (shapes : List PlacedShape) (unmoved flags : List Bool) (before count : ℕ) (dirty : List ℕ) → p.b < count
         → unmoved ≡ unmoved_flags stood shapes
         → before ≡ length stood → length old ≡ length stood
-        → ((k : ℕ) → k < count → get_or flags k false ≡ false → (before ≡ count) × (has_body moved k ≡ false))
-        → (length stood ≡ count → (k : ℕ) → k < count → has_body moved k ≡ false
+        → ((k : ℕ) → k < count → get_or flags k false ≡ false → (before ≡ count) × (has_body dirty k ≡ false))
+        → (length stood ≡ count → (k : ℕ) → k < count → has_body dirty k ≡ false
         → (slice_get stood k ≡ slice_get shapes k) × (slice_get old k ≡ slice_get bounds k))
         → IsFreshUnlessLive bounds unmoved flags (carried_slot kept p)
-    stayed bounds shapes unmoved flags before count moved below flags_are counted as_many right stay other =
+    stayed bounds shapes unmoved flags before count dirty below flags_are counted as_many right stay other =
         let parts = or_parts (get_or flags p.a false) (get_or flags p.b false) other in
         let low : p.a < count = omega (arith, in_range.0, below) in
         let first = right p.a low parts.0 in

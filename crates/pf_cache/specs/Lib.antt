@@ -5,7 +5,7 @@ pub mod Same
 pub mod SameLaws
 pub mod ContactRows
 pub mod ContactsChange
-pub mod KeyEdits
+pub mod KeySplices
 pub mod Meter
 pub mod Manifolds
 pub mod PlacedBodies

@@ -39,7 +39,7 @@ pub record HaveBounds (shapes : List PlacedShape) (bounds : List Bounds) : Type 
 -- where as many bodies are placed: each of these that is not listed stands as it is placed, and has
 -- the same bounds
 abbrev pub HaveStayed : List ℕ → PlacedBodies → List Fixture → List BodyState → Type 0
-HaveStayed moved placed fixtures bodies =
-    length placed.shapes ≡ length bodies → (k : ℕ) → k < length bodies → has_body moved k ≡ false
+HaveStayed dirty placed fixtures bodies =
+    length placed.shapes ≡ length bodies → (k : ℕ) → k < length bodies → has_body dirty k ≡ false
     → (slice_get placed.shapes k ≡ slice_get (placed_shapes fixtures bodies) k)
     × (slice_get placed.bounds k ≡ slice_get (all_bounds fixtures bodies) k)

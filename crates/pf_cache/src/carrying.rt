@@ -22,7 +22,7 @@ pub(crate) struct Carried {
 
 /// Slots that a walk has passed by.
 #[derive(Clone, Copy)]
-struct Passed {
+struct Reached {
     /// The place after them.
     end: usize,
     /// Whether none of them has contact points.
@@ -42,7 +42,7 @@ fn has_lower_rank(first: &Pair, second: &Pair) -> bool
 /// Passes by the slots from `start` on whose pairs are before this one. Look-ups of this pair and
 /// of later ones find after them what they find from `start`.
 #[inline]
-fn pass(old: &[Slot], start: usize, pair: &Pair) -> Passed
+fn advance_to(old: &[Slot], start: usize, pair: &Pair) -> Reached
     requires start { start ≤ length old.now }
     requires rising { IsRising 0 (map (λ s. pair_rank s.pair) old.now) }
     requires bodies { All (λ s. IsPairOf MAX_BODIES s.pair) old.now }
@@ -60,7 +60,7 @@ fn pass(old: &[Slot], start: usize, pair: &Pair) -> Passed
     while place < old.len() {
         let slot = &old[place];
         if !has_lower_rank(slot.pair(), pair) {
-            return Passed {
+            return Reached {
                 end: place,
                 are_empty,
             };
@@ -68,7 +68,7 @@ fn pass(old: &[Slot], start: usize, pair: &Pair) -> Passed
         are_empty = are_empty & (slot.count() == 0);
         place += 1;
     }
-    Passed {
+    Reached {
         end: place,
         are_empty,
     }
@@ -158,7 +158,7 @@ pub(crate) fn carried_slots(
     let mut place = 0;
     let mut has_all = true;
     for pair in pairs {
-        let passed = pass(old, place, pair);
+        let passed = advance_to(old, place, pair);
         has_all = has_all & passed.are_empty;
         place = push_carried(&mut slots, old, passed.end, pair);
     }

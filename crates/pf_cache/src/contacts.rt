@@ -5,12 +5,12 @@ ghost use Rattle.pf_manifold.specs.Key.{key_of, rank};
 ghost use Rattle.pf_cache.specs.Contact.{AreContacts, AreKeys, contacts_of_keys};
 ghost use Rattle.pf_cache.specs.ContactRows.{AreRowsAt, IsRowAt, with_rows};
 ghost use Rattle.pf_cache.specs.ContactsChange.{contact_of_row};
-ghost use Rattle.pf_cache.specs.KeyEdits.{keys_after, spanned_count};
+ghost use Rattle.pf_cache.specs.KeySplices.{keys_after, spanned_count};
 
 use crate::contact::Contact;
 use crate::contacts_change::{ContactsChange, NotedContact, restore_all};
-use crate::key_edits::{KeyEdit, KeyEdits};
-use crate::next_contacts::{add_all, add_edited, dropped_count};
+use crate::key_splices::{KeySplice, KeySplices};
+use crate::next_contacts::{add_all, add_spliced, dropped_count};
 use pf_manifold::{Key, Touch};
 use pf_rows::Row;
 use std::alloc::{AllocError, Global};
@@ -91,7 +91,7 @@ impl Contacts {
     ghost use Rattle.pf_cache.specs.Contact.{AreKeys, contacts_of_keys, next_contacts};
     ghost use Rattle.pf_cache.specs.ContactRows.{AreRowsAt, with_rows};
     ghost use Rattle.pf_cache.specs.ContactsChange.{contacts_before, may_change, no_contacts_change};
-    ghost use Rattle.pf_cache.specs.KeyEdits.{AreEditsOf, edited_keys, keys_after, spanned_count};
+    ghost use Rattle.pf_cache.specs.KeySplices.{AreSplicesOf, spliced_keys, keys_after, spanned_count};
     ghost use Rattle.pf_cache.specs.Same.{same_contacts};
 
     /// No contacts. Takes no memory.
@@ -146,7 +146,7 @@ impl Contacts {
         ensures no_change { OnErr result (change.new ≡ no_contacts_change) }
         ensures no_memory { keys.now ≡ [] → IsOk result }
     {
-        let all = [KeyEdit {
+        let all = [KeySplice {
             kept: 0,
             dropped: self.list.len(),
             added: keys.len(),
@@ -154,66 +154,66 @@ impl Contacts {
         self.make_anew(&all, keys, change)
     }
 
-    /// Replaces the contacts by those of their keys after these edits, which are in their order,
+    /// Replaces the contacts by those of their keys after these splices, which are in their order,
     /// each once, as [`Contacts::set_keys`] does. `change` then undoes this.
     ///
-    /// With `may_stay`, and without edits, the contacts stay in place (no clause says that they
+    /// With `may_stay`, and without splices, the contacts stay in place (no clause says that they
     /// do), and impulses that change have to be noted. Otherwise all contacts are made anew, and
     /// `change` has those before: where the impulses of most contacts change, to note them one by
     /// one takes longer than to copy all. An error leaves the contacts as they are, and no change
     /// in `change`.
-    pub fn edit(
+    pub fn splice(
         &mut self,
-        edits: &KeyEdits,
+        splices: &KeySplices,
         may_stay: bool,
         change: &mut ContactsChange,
     ) -> Result<(), AllocError>
-        requires edits { AreEditsOf edits.now (length self.old) }
-        requires keys { AreKeys (edited_keys edits.now (map (λ c. c.key) self.old)) }
+        requires splices { AreSplicesOf splices.now (length self.old) }
+        requires keys { AreKeys (spliced_keys splices.now (map (λ c. c.key) self.old)) }
         ensures value { OnOk result (self.new
-            ≡ contacts_of_keys self.old (edited_keys edits.now (map (λ c. c.key) self.old))) }
+            ≡ contacts_of_keys self.old (spliced_keys splices.now (map (λ c. c.key) self.old))) }
         ensures before { contacts_before change.new self.new ≡ self.old }
         ensures anew { OnOk result (may_stay ≡ false → change.new.in_place ≡ false) }
         ensures unchanged { OnErr result (self.new ≡ self.old) }
         ensures no_change { OnErr result (change.new ≡ no_contacts_change) }
-        ensures no_memory { edited_keys edits.now (map (λ c. c.key) self.old) ≡ []
+        ensures no_memory { spliced_keys splices.now (map (λ c. c.key) self.old) ≡ []
             → IsOk result }
     {
-        if may_stay && edits.edits.is_empty() {
+        if may_stay && splices.splices.is_empty() {
             change.clear();
             return Ok(());
         }
-        self.make_anew(&edits.edits, &edits.added, change)
+        self.make_anew(&splices.splices, &splices.added, change)
     }
 
-    /// Makes all contacts anew, of the keys after these edits, which add these keys. `change` has
+    /// Makes all contacts anew, of the keys after these splices, which add these keys. `change` has
     /// the contacts before. An error leaves the contacts as they are, and no change in `change`.
     #[inline(never)]
     fn make_anew(
         &mut self,
-        edits: &[KeyEdit],
+        splices: &[KeySplice],
         added: &[Key],
         change: &mut ContactsChange,
     ) -> Result<(), AllocError>
-        requires within { spanned_count edits.now ≤ length self.old }
-        requires added { sum_by (λ e. e.added) edits.now ≡ length added.now }
-        requires keys { AreKeys (keys_after edits.now added.now (map (λ c. c.key) self.old)) }
+        requires within { spanned_count splices.now ≤ length self.old }
+        requires added { sum_by (λ e. e.added) splices.now ≡ length added.now }
+        requires keys { AreKeys (keys_after splices.now added.now (map (λ c. c.key) self.old)) }
         ensures value { OnOk result (self.new ≡ contacts_of_keys self.old
-            (keys_after edits.now added.now (map (λ c. c.key) self.old))) }
+            (keys_after splices.now added.now (map (λ c. c.key) self.old))) }
         ensures before { contacts_before change.new self.new ≡ self.old }
         ensures anew { OnOk result (change.new.in_place ≡ false) }
         ensures unchanged { OnErr result (self.new ≡ self.old) }
         ensures no_change { OnErr result (change.new ≡ no_contacts_change) }
-        ensures no_memory { keys_after edits.now added.now (map (λ c. c.key) self.old) ≡ []
+        ensures no_memory { keys_after splices.now added.now (map (λ c. c.key) self.old) ≡ []
             → IsOk result }
     {
         change.clear();
         let old_count = self.list.len();
-        let count = old_count - dropped_count(edits, old_count) + added.len();
+        let count = old_count - dropped_count(splices, old_count) + added.len();
         change.before.reserve(count)?;
         change.in_place = false;
         mem::swap(&mut self.list, &mut change.before);
-        add_edited(&mut self.list, &change.before, edits, added);
+        add_spliced(&mut self.list, &change.before, splices, added);
         Ok(())
     }
 

@@ -36,18 +36,18 @@ impl Live {
         }
     }
 
-    /// Whether these serve a tick of `count` bodies in which those of `moved` may have moved: all of
+    /// Whether these serve a tick of `count` bodies in which those of `dirty` may have moved: all of
     /// them are watched, and they are at least half as many as when the watched ones were chosen.
-    fn serves(&self, count: usize, moved: &[usize]) -> bool
-        requires { All (λ number. number < count) moved.now }
+    fn serves(&self, count: usize, dirty: &[usize]) -> bool
+        requires { All (λ number. number < count) dirty.now }
         ensures count { IsTrue result → length self.now.watched.items ≡ count }
         ensures others { IsTrue result → (k : ℕ) → k < count
-            → get_or self.now.watched.items k false ≡ false → has_body moved.now k ≡ false }
+            → get_or self.now.watched.items k false ≡ false → has_body dirty.now k ≡ false }
     {
-        if self.watched.len() != count || moved.len() < self.chosen / 2 {
+        if self.watched.len() != count || dirty.len() < self.chosen / 2 {
             return false;
         }
-        for number in moved {
+        for number in dirty {
             if !self.watched[*number] {
                 return false;
             }
@@ -82,27 +82,27 @@ fn live_places(
 
 /// For each body whether it may have moved: it is one of these, or there were not as many bodies
 /// before.
-fn moved_flags(
+fn dirty_flags(
     alloc: Global,
     before: usize,
     count: usize,
-    moved: &[usize],
+    dirty: &[usize],
 ) -> Result<Vec<bool>, AllocError>
-    requires { All (λ number. number < count) moved.now }
+    requires { All (λ number. number < count) dirty.now }
     ensures count { IfOk result (λ flags. length flags.items ≡ count) }
     ensures others { IfOk result (λ flags. (k : ℕ) → k < count → get_or flags.items k false ≡ false
-        → (before ≡ count) × (has_body moved.now k ≡ false)) }
+        → (before ≡ count) × (has_body dirty.now k ≡ false)) }
 {
     let mut flags = Vec::with_capacity(alloc, count)?;
     flags.resize(count, before != count)?;
-    for number in moved {
+    for number in dirty {
         flags[*number] = true;
     }
     Ok(flags)
 }
 
 /// The bodies that are watched in a tick, and the slots that have one of them. There were `before`
-/// bodies in the last tick, and there are `count` now; those of `moved` may have moved. `kept` is
+/// bodies in the last tick, and there are `count` now; those of `dirty` may have moved. `kept` is
 /// of the last tick: it serves again where the slots are the `same`.
 pub(crate) fn live_of(
     alloc: Global,
@@ -111,25 +111,25 @@ pub(crate) fn live_of(
     slots: &[Slot],
     before: usize,
     count: usize,
-    moved: &[usize],
+    dirty: &[usize],
 ) -> Result<Live, AllocError>
-    requires moved { All (λ number. number < count) moved.now }
+    requires dirty { All (λ number. number < count) dirty.now }
     requires pairs { All (λ s. IsPairOf count s.pair) slots.now }
     requires kept { IsTrue same → AreLive kept.watched.items kept.places.items slots.now }
     ensures live { IfOk result (λ live. AreLive live.watched.items live.places.items slots.now) }
     ensures others { IfOk result (λ live. (k : ℕ) → k < count
         → get_or live.watched.items k false ≡ false
-        → (before ≡ count) × (has_body moved.now k ≡ false)) }
+        → (before ≡ count) × (has_body dirty.now k ≡ false)) }
 {
-    if same && before == count && kept.serves(count, moved) {
+    if same && before == count && kept.serves(count, dirty) {
         return Ok(kept);
     }
-    let watched = moved_flags(alloc, before, count, moved)?;
+    let watched = dirty_flags(alloc, before, count, dirty)?;
     let places = live_places(alloc, &watched, slots)?;
     Ok(Live {
         watched,
         places,
-        chosen: moved.len(),
+        chosen: dirty.len(),
     })
 }
 

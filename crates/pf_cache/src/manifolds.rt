@@ -5,13 +5,13 @@ ghost use Rattle.std.specs.List.{flat_map};
 ghost use Rattle.pf_shapes.specs.Pair.{IsAscending, IsPairOf};
 ghost use Rattle.pf_manifold.specs.Touches.{touches};
 ghost use Rattle.pf_manifold.specs.Key.{IsRising, key_of};
-ghost use Rattle.pf_cache.specs.KeyEdits.{AreEditsBetween};
+ghost use Rattle.pf_cache.specs.KeySplices.{AreSplicesBetween};
 ghost use Rattle.pf_cache.specs.Live.{AreLive};
 ghost use Rattle.pf_cache.specs.Manifolds.{placed_shapes};
 ghost use Rattle.pf_cache.specs.Slots.{HasFewTouches, IsFreshUnlessLive, HasSoundPoints, carried_slot, needs_points, pair_rank, slot_of, slot_touches};
 
 use crate::carrying::{Carried, carried_slots};
-use crate::key_edits::KeyEdits;
+use crate::key_splices::KeySplices;
 use crate::live::{Live, are_watched, live_of};
 use crate::placed_bodies::PlacedBodies;
 use crate::slot::Slot;
@@ -77,22 +77,22 @@ pub struct FoundCollisions {
     /// What the narrow phase of the tick found.
     pub collisions: Collisions,
     /// How the keys of the contact points changed since they were kept, if that is known.
-    pub key_edits: Option<KeyEdits>,
+    pub key_splices: Option<KeySplices>,
 }
 
 /// These contact points, with how many pairs could not reuse kept points, and how the keys changed.
 #[inline]
-fn found(manifolds: Manifolds, computed: usize, key_edits: Option<KeyEdits>) -> FoundCollisions
+fn found(manifolds: Manifolds, computed: usize, key_splices: Option<KeySplices>) -> FoundCollisions
     ensures manifolds { result.collisions.manifolds ≡ manifolds }
     ensures computed { result.collisions.computed ≡ computed }
-    ensures key_edits { result.key_edits ≡ key_edits }
+    ensures key_splices { result.key_splices ≡ key_splices }
 {
     FoundCollisions {
         collisions: Collisions {
             manifolds,
             computed,
         },
-        key_edits,
+        key_splices,
     }
 }
 
@@ -102,7 +102,7 @@ struct Refreshed {
     /// How many pairs had their contact points computed.
     computed: usize,
     /// How the keys of the contact points changed.
-    key_edits: KeyEdits,
+    key_splices: KeySplices,
 }
 
 /// The contact points of these pairs by the collider, where they are many.
@@ -156,7 +156,7 @@ fn update_slots<C: Collider>(
         (λ _. AreLive live.now.watched.items live.now.places.items slots.new) }
     ensures computed { IfOk result (λ refreshed. refreshed.computed
         ≡ count_by (needs_points placed.now.bounds unmoved.items) slots.old) }
-    ensures key_edits { IfOk result (λ refreshed. AreEditsBetween refreshed.key_edits
+    ensures key_splices { IfOk result (λ refreshed. AreSplicesBetween refreshed.key_splices
         (map key_of (flat_map slot_touches slots.old))
         (map key_of (flat_map slot_touches slots.new))) }
 {
@@ -164,10 +164,10 @@ fn update_slots<C: Collider>(
     let stale = stale_slots(alloc, slots, live, unmoved, bounds)?;
     let pairs = stale.pairs.as_slice();
     let collided = collided(collider, alloc, scene, bodies, pairs)?;
-    let key_edits = refresh_slots(alloc, slots, &stale, &collided, bounds, placed.shapes())?;
+    let key_splices = refresh_slots(alloc, slots, &stale, &collided, bounds, placed.shapes())?;
     Ok(Refreshed {
         computed: pairs.len(),
-        key_edits,
+        key_splices,
     })
 }
 
@@ -203,7 +203,7 @@ impl Manifolds {
     ghost use Rattle.pf_manifold.specs.Key.{key_of};
     ghost use Rattle.pf_manifold.specs.Touches.{IsTouchOf};
     ghost use Rattle.pf_cache.specs.Contact.{AreKeys};
-    ghost use Rattle.pf_cache.specs.KeyEdits.{AreEditsBetween};
+    ghost use Rattle.pf_cache.specs.KeySplices.{AreSplicesBetween};
     ghost use Rattle.pf_cache.specs.PlacedBodies.{HaveStayed, bodies_of};
     ghost use Rattle.pf_cache.specs.Manifolds.{computed_count, kept_touches, manifolds_of, no_manifolds, placed_shapes};
     ghost use Rattle.pf_cache.specs.Points.{flagged_points};
@@ -252,47 +252,47 @@ impl Manifolds {
     /// The points of a pair that is kept are reused if both bodies still have the shape, position
     /// and rotation that they had. The other pairs cannot reuse kept points: theirs are computed,
     /// and these pairs are counted. The collider computes them if they are many. Where as many
-    /// bodies are kept, only those of `moved` are compared with how they stood: all others must
-    /// stand as they did, and if `moved` is empty, what is kept is returned as it is. An error
+    /// bodies are kept, only those of `dirty` are compared with how they stood: all others must
+    /// stand as they did, and if `dirty` is empty, what is kept is returned as it is. An error
     /// drops what is kept. Takes no memory where there are no bodies.
     ///
-    /// No clause says that `key_edits` are known wherever they could be.
+    /// No clause says that `key_splices` are known wherever they could be.
     pub fn update<C: Collider>(
         self,
         collider: &C,
         alloc: Global,
         scene: &Scene,
         bodies: &[BodyState],
-        moved: &[usize],
+        dirty: &[usize],
     ) -> Result<FoundCollisions, AllocError>
         requires can { C.can_collide collider.now }
         requires bodies { length bodies.now ≡ length scene.now.fixtures }
-        requires moved { All (λ number. number < length bodies.now) moved.now }
-        requires others { HaveStayed moved.now (bodies_of self) scene.now.fixtures bodies.now }
+        requires dirty { All (λ number. number < length bodies.now) dirty.now }
+        requires others { HaveStayed dirty.now (bodies_of self) scene.now.fixtures bodies.now }
         ensures manifolds { IfOk result (λ found. found.collisions.manifolds
             ≡ manifolds_of scene.now.fixtures bodies.now
             (pairs (all_bounds scene.now.fixtures bodies.now))) }
         ensures computed { IfOk result (λ found. found.collisions.computed
             ≡ computed_count self (placed_shapes scene.now.fixtures bodies.now)
             (pairs (all_bounds scene.now.fixtures bodies.now))) }
-        ensures key_edits { IfOk result (λ found. IfSome found.key_edits
-            (λ edits. AreEditsBetween edits (map key_of (kept_touches self))
+        ensures key_splices { IfOk result (λ found. IfSome found.key_splices
+            (λ splices. AreSplicesBetween splices (map key_of (kept_touches self))
             (map key_of (kept_touches found.collisions.manifolds)))) }
         ensures no_memory { bodies.now ≡ [] → IsOk result }
     {
         if bodies.is_empty() {
             return Ok(found(Manifolds::new(alloc), 0, None));
         }
-        if moved.is_empty() && self.placed.shapes().len() == bodies.len() {
-            return Ok(found(self, 0, Some(KeyEdits::new(alloc))));
+        if dirty.is_empty() && self.placed.shapes().len() == bodies.len() {
+            return Ok(found(self, 0, Some(KeySplices::new(alloc))));
         }
         let before = self.placed.shapes().len();
-        let (placed, unmoved) = self.placed.update(alloc, scene, bodies, moved)?;
+        let (placed, unmoved) = self.placed.update(alloc, scene, bodies, dirty)?;
         let mut broad_phase = self.broad_phase;
-        let same = broad_phase.update(alloc, placed.bounds(), bodies, moved)?;
+        let same = broad_phase.update(alloc, placed.bounds(), bodies, dirty)?;
         let carried = slots_of(alloc, self.slots, same, broad_phase.candidates())?;
         let Carried { mut slots, has_all } = carried;
-        let live = live_of(alloc, self.live, same, &slots, before, bodies.len(), moved)?;
+        let live = live_of(alloc, self.live, same, &slots, before, bodies.len(), dirty)?;
         let refreshed = update_slots(
             collider, alloc, scene, bodies, &mut slots, &live, unmoved, &placed,
         )?;
@@ -304,9 +304,9 @@ impl Manifolds {
         };
         let Refreshed {
             computed,
-            key_edits,
+            key_splices,
         } = refreshed;
-        let key_edits = if has_all { Some(key_edits) } else { None };
-        Ok(found(manifolds, computed, key_edits))
+        let key_splices = if has_all { Some(key_splices) } else { None };
+        Ok(found(manifolds, computed, key_splices))
     }
 }

@@ -3,10 +3,10 @@
 ghost use Rattle.std.specs.Prelude.{◌≡◌, ◌+◌, ◌≤◌, ◌<◌, ◌++◌, ℕ, All, drop, length, map, sum_by, vec_capacity, vec_len};
 ghost use Rattle.pf_manifold.specs.Key.{IsKey, rank};
 ghost use Rattle.pf_cache.specs.Contact.{AreContacts, AreKeys, contacts_of_keys, impulses_at};
-ghost use Rattle.pf_cache.specs.KeyEdits.{keys_after, spanned_count};
+ghost use Rattle.pf_cache.specs.KeySplices.{keys_after, spanned_count};
 
 use crate::contact::Contact;
-use crate::key_edits::KeyEdit;
+use crate::key_splices::KeySplice;
 use pf_manifold::Key;
 use pf_rows::Impulses;
 
@@ -91,14 +91,14 @@ fn add_next(list: &mut Vec<Contact>, old: &[Contact], keys: &[Key])
     }
 }
 
-/// How many keys these edits drop, of a list of `count` keys.
-pub(crate) fn dropped_count(edits: &[KeyEdit], count: usize) -> usize
-    requires { spanned_count edits.now ≤ count }
-    ensures { result ≡ sum_by (λ e. e.dropped) edits.now }
+/// How many keys these splices drop, of a list of `count` keys.
+pub(crate) fn dropped_count(splices: &[KeySplice], count: usize) -> usize
+    requires { spanned_count splices.now ≤ count }
+    ensures { result ≡ sum_by (λ e. e.dropped) splices.now }
 {
     let mut dropped = 0;
-    for edit in edits {
-        dropped += edit.dropped;
+    for splice in splices {
+        dropped += splice.dropped;
     }
     dropped
 }
@@ -119,34 +119,39 @@ fn add_run(list: &mut Vec<Contact>, dropped: &[Contact], keys: &[Key], kept: &[C
     add_all(list, kept);
 }
 
-/// Adds the contacts of the keys after edits. There is room for them. Edits with no key that stays
+/// Adds the contacts of the keys after splices. There is room for them. Splices with no key that stays
 /// between them count as one: a key that one of them drops may be added by the other, and keeps its
 /// impulses.
-pub(crate) fn add_edited(list: &mut Vec<Contact>, old: &[Contact], edits: &[KeyEdit], added: &[Key])
+pub(crate) fn add_spliced(
+    list: &mut Vec<Contact>,
+    old: &[Contact],
+    splices: &[KeySplice],
+    added: &[Key],
+)
     requires old { AreContacts old.now }
-    requires within { spanned_count edits.now ≤ length old.now }
-    requires added { sum_by (λ e. e.added) edits.now ≡ length added.now }
-    requires keys { AreKeys (keys_after edits.now added.now (map (λ c. c.key) old.now)) }
+    requires within { spanned_count splices.now ≤ length old.now }
+    requires added { sum_by (λ e. e.added) splices.now ≡ length added.now }
+    requires keys { AreKeys (keys_after splices.now added.now (map (λ c. c.key) old.now)) }
     requires room { vec_len list.old
-        + length (keys_after edits.now added.now (map (λ c. c.key) old.now))
+        + length (keys_after splices.now added.now (map (λ c. c.key) old.now))
         ≤ vec_capacity list.old }
     ensures { list.new.items ≡ list.old.items
-        ++ contacts_of_keys old.now (keys_after edits.now added.now (map (λ c. c.key) old.now)) }
+        ++ contacts_of_keys old.now (keys_after splices.now added.now (map (λ c. c.key) old.now)) }
 {
     // Old contacts from `from` to `end` are dropped, and keys from `done` to `last` come between.
     let mut from = 0;
     let mut end = 0;
     let mut done = 0;
     let mut last = 0;
-    for edit in edits {
-        let next = end + edit.kept;
-        if edit.kept > 0 {
+    for splice in splices {
+        let next = end + splice.kept;
+        if splice.kept > 0 {
             add_run(list, &old[from..end], &added[done..last], &old[end..next]);
             from = next;
             done = last;
         }
-        end = next + edit.dropped;
-        last += edit.added;
+        end = next + splice.dropped;
+        last += splice.added;
     }
     add_run(list, &old[from..end], &added[done..], &old[end..]);
 }

@@ -65,23 +65,23 @@ fn refresh_bodies(
     unmoved: &mut [bool],
     fixtures: &[Fixture],
     bodies: &[BodyState],
-    moved: &[usize],
+    dirty: &[usize],
 )
     requires fixtures { length fixtures.now ≡ length shapes.old }
     requires bodies { length bodies.now ≡ length shapes.old }
     requires bounds { HaveBounds shapes.old bounds.old }
     requires flags { unmoved.old ≡ replicate (length shapes.old) true }
-    requires moved { AreBodies bounds.old moved.now }
+    requires dirty { AreBodies bounds.old dirty.now }
     requires others { let placed : PlacedBodies =
         record { shapes = shapes.old; bounds = bounds.old } in
-        HaveStayed moved.now placed fixtures.now bodies.now }
+        HaveStayed dirty.now placed fixtures.now bodies.now }
     ensures shapes { shapes.new ≡ placed_shapes fixtures.now bodies.now }
     ensures bounds { bounds.new ≡ all_bounds fixtures.now bodies.now }
     ensures ordered { All IsOrdered bounds.new }
     ensures unmoved { unmoved.new
         ≡ unmoved_flags shapes.old (placed_shapes fixtures.now bodies.now) }
 {
-    for number in moved {
+    for number in dirty {
         let number = *number;
         let is_unmoved = refresh_body(
             &mut shapes[number],
@@ -150,18 +150,18 @@ impl PlacedBodies {
     }
 
     /// All bodies of a scene as they stand, in the lists of the old ones if these are as many; and
-    /// for each whether it is unmoved. Where they are as many, only bodies of `moved` are compared:
+    /// for each whether it is unmoved. Where they are as many, only bodies of `dirty` are compared:
     /// all others stand as they stood.
     pub fn update(
         self,
         alloc: Global,
         scene: &Scene,
         bodies: &[BodyState],
-        moved: &[usize],
+        dirty: &[usize],
     ) -> Result<(PlacedBodies, Vec<bool>), AllocError>
         requires bodies { length bodies.now ≡ length scene.now.fixtures }
-        requires moved { All (λ number. number < length bodies.now) moved.now }
-        requires others { HaveStayed moved.now self scene.now.fixtures bodies.now }
+        requires dirty { All (λ number. number < length bodies.now) dirty.now }
+        requires others { HaveStayed dirty.now self scene.now.fixtures bodies.now }
         ensures placed { IfOk result
             (λ found. found.0 ≡ placed_bodies scene.now.fixtures bodies.now) }
         ensures unmoved { IfOk result (λ found. found.1.items
@@ -183,7 +183,7 @@ impl PlacedBodies {
             &mut unmoved,
             fixtures,
             bodies,
-            moved,
+            dirty,
         );
         Ok((PlacedBodies { shapes, bounds }, unmoved))
     }

@@ -10,7 +10,7 @@ ghost use Rattle.pf_manifold.specs.Touches.{touch_of};
 ghost use Rattle.pf_cache.specs.Slots.{points_or_none};
 
 use crate::kept_shape::are_unmoved;
-use crate::key_edits::{KeyEdit, KeyEdits};
+use crate::key_splices::{KeySplice, KeySplices};
 use pf_broad::may_touch;
 use pf_manifold::{ContactPoint, Key, Manifold, Touch, touch_of};
 use pf_shapes::{Bounds, MAX_BODIES, Pair};
@@ -136,7 +136,7 @@ impl Slot {
     ghost use Rattle.pf_manifold.specs.Key.{Key, key_of};
     ghost use Rattle.pf_manifold.specs.Touches.{IsTouchOf, touch_of};
     ghost use Rattle.pf_cache.specs.Points.{is_flagged};
-    ghost use Rattle.pf_cache.specs.KeyEdits.{AreEditsUpTo};
+    ghost use Rattle.pf_cache.specs.KeySplices.{AreSplicesUpTo};
     ghost use Rattle.pf_cache.specs.Slots.{Slot, is_stale_if, manifold_touches, slot_touches};
 
     /// The slot of a pair, without contact points.
@@ -195,23 +195,23 @@ impl Slot {
         self.points.is_some()
     }
 
-    /// Gives the slot these contact points, and notes in `edits` how the keys change: `kept` keys
-    /// stay between the last edit and those of the slot. Returns how many stay after the last edit
-    /// then. After an error the slot and `edits` may have changed.
+    /// Gives the slot these contact points, and notes in `splices` how the keys change: `kept` keys
+    /// stay between the last splice and those of the slot. Returns how many stay after the last splice
+    /// then. After an error the slot and `splices` may have changed.
     #[inline]
     pub(crate) fn replace(
         &mut self,
         points: Option<Manifold>,
         kept: usize,
-        edits: &mut KeyEdits,
+        splices: &mut KeySplices,
     ) -> Result<usize, AllocError>
         requires pair { IsPairOf MAX_BODIES self.old.pair }
         requires room { kept + length (slot_touches self.old) < 2 ^ 64 }
         ensures slot { OnOk result
             (self.new ≡ record self.old { touches = manifold_touches self.old.pair points }) }
-        ensures edits { IfOk result (λ rest. (before after : List Key)
-            → AreEditsUpTo edits.old kept before after
-            → AreEditsUpTo edits.new rest
+        ensures splices { IfOk result (λ rest. (before after : List Key)
+            → AreSplicesUpTo splices.old kept before after
+            → AreSplicesUpTo splices.new rest
             (before ++ map key_of (slot_touches self.old))
             (after ++ map key_of (slot_touches self.new))) }
     {
@@ -222,12 +222,12 @@ impl Slot {
         if same_keys {
             return Ok(kept + dropped);
         }
-        edits.edits.push(KeyEdit {
+        splices.splices.push(KeySplice {
             kept,
             dropped,
             added,
         })?;
-        self.push_keys(&mut edits.added)?;
+        self.push_keys(&mut splices.added)?;
         Ok(0)
     }
 

@@ -7,14 +7,14 @@ ghost use Rattle.pf_broad.specs.Pairs.{pair_may_touch};
 ghost use Rattle.pf_manifold.specs.Key.{key_of};
 ghost use Rattle.pf_manifold.specs.Manifold.{points_of};
 ghost use Rattle.pf_manifold.specs.Touches.{touch_of};
-ghost use Rattle.pf_cache.specs.KeyEdits.{AreEditsBetween};
+ghost use Rattle.pf_cache.specs.KeySplices.{AreSplicesBetween};
 ghost use Rattle.pf_cache.specs.Live.{AreLive};
 ghost use Rattle.pf_cache.specs.Manifolds.{points_of_pair};
 ghost use Rattle.pf_cache.specs.Slots.{AreStale, HasFewTouches, IsFreshUnlessLive, is_of_pair, manifold_touches, refreshed_slot, slot_of, slot_touches};
 ghost use Rattle.pf_cache.specs.Stale.{AreNextPoints};
 
 use crate::kept_shape::{KeptShape, manifold_of_pair};
-use crate::key_edits::KeyEdits;
+use crate::key_splices::KeySplices;
 use crate::live::Live;
 use crate::slot::{Slot, SlotPlace, pair_may_touch};
 use pf_manifold::{Manifold, Touch};
@@ -176,7 +176,7 @@ pub(crate) fn refresh_slots(
     collided: &Option<Vec<Touch>>,
     bounds: &[Bounds],
     shapes: &[KeptShape],
-) -> Result<KeyEdits, AllocError>
+) -> Result<KeySplices, AllocError>
     requires few { length shapes.now ≤ MAX_BODIES }
     requires bodies { length bounds.now ≡ length shapes.now }
     requires pairs { All (λ s. IsPairOf (length shapes.now) s.pair) slots.old }
@@ -188,18 +188,18 @@ pub(crate) fn refresh_slots(
         ≡ flat_map (points_of_pair shapes.now) stale.now.pairs.items) }
     ensures slots { IfOk result (λ _. slots.new
         ≡ map (refreshed_slot bounds.now stale.now.unmoved.items shapes.now) slots.old) }
-    ensures edits { IfOk result (λ edits. AreEditsBetween edits
+    ensures splices { IfOk result (λ splices. AreSplicesBetween splices
         (map key_of (flat_map slot_touches slots.old))
         (map key_of (flat_map slot_touches slots.new))) }
 {
-    let mut edits = KeyEdits::new(alloc);
+    let mut splices = KeySplices::new(alloc);
     let mut kept = 0;
     let mut start = 0;
     for place in &stale.places {
         let slot = &mut slots[place.place];
         let (points, end) = points_at(slot.pair(), collided, start, bounds, shapes);
         start = end;
-        kept = slot.replace(points, kept + place.skipped, &mut edits)?;
+        kept = slot.replace(points, kept + place.skipped, &mut splices)?;
     }
-    Ok(edits)
+    Ok(splices)
 }

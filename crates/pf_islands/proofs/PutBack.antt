@@ -15,7 +15,7 @@ use Rattle.pf_islands.specs.Join.{IsAtHome, joined_bodies, joined_contacts, with
 use Rattle.pf_islands.specs.Laws.{HasBody, HoldsRow}
 use Rattle.pf_islands.specs.Split.{Island}
 use Rattle.pf_islands.proofs.Elements.{all_at, all_from, same_element, set_length, set_other, set_same}
-use Rattle.pf_cache.proofs.Editing.{all_unmap}
+use Rattle.pf_cache.proofs.Splicing.{all_unmap}
 
 -- ---- bodies
 

@@ -23,7 +23,7 @@ use Rattle.pf_islands.specs.Rows.{IsRowOf, is_awake_at}
 use Rattle.pf_islands.specs.Split.{AreTogether, AreWoken, IsActiveRow, IsIslandOf, Island, active_labels, is_active_label, island_of, islands}
 use Rattle.pf_islands.proofs.Filled.{group_active, is_member, name_at, touches_group}
 use Rattle.pf_cache.proofs.ChosenNumbers.{chosen_pass, range_within}
-use Rattle.pf_cache.proofs.Editing.{all_unmap}
+use Rattle.pf_cache.proofs.Splicing.{all_unmap}
 
 -- ---- places among numbers
 

@@ -55,20 +55,20 @@ module _ (c : ℕ) (scale : IsScale c) where
 -- ---- one number
 
 module _ (x : Float) (z : ℤ) (e : x ≡ double_of 1 z) (h : FitsDouble z) where
-  pub whole_view_is : numerator 1 x ≡ z
-  whole_view_is = ap (numerator 1) e ∙ numerator-double_of 1 whole_scale z h
+  pub exact_view_is : numerator 1 x ≡ z
+  exact_view_is = ap (numerator 1) e ∙ numerator-double_of 1 whole_scale z h
 
   pub is_whole : IsWhole x
-  is_whole = record { double = ap (double_of 1) whole_view_is ∙ sym e; whole = subst FitsDouble (sym whole_view_is) h }
+  is_whole = record { double = ap (double_of 1) exact_view_is ∙ sym e; whole = subst FitsDouble (sym exact_view_is) h }
 
 -- a double that is such a number is that of its view
-pub whole_double : (x : Float) (z : ℤ) → IsWhole x → numerator 1 x ≡ z → (x ≡ double_of 1 z) × FitsDouble z
-whole_double x z h e = (sym h.double ∙ ap (double_of 1) e, subst FitsDouble e h.whole)
+pub exact_double : (x : Float) (z : ℤ) → IsWhole x → numerator 1 x ≡ z → (x ≡ double_of 1 z) × FitsDouble z
+exact_double x z h e = (sym h.double ∙ ap (double_of 1) e, subst FitsDouble e h.whole)
 
 -- and an integer of the program is
-pub whole_back : (x : Float) (z : ℤ) → IsWhole x → numerator 1 x ≡ z → T (in_signed binary64 63 x) × (to_z w64 (of_z w64 (to_signed 63 x)) ≡ z)
-whole_back x z h e =
-    let is = whole_double x z h e in
+pub exact_back : (x : Float) (z : ℤ) → IsWhole x → numerator 1 x ≡ z → T (in_signed binary64 63 x) × (to_z w64 (of_z w64 (to_signed 63 x)) ≡ z)
+exact_back x z h e =
+    let is = exact_double x z h e in
     subst (λ (y : Float). T (in_signed binary64 63 y) × (to_z w64 (of_z w64 (to_signed 63 y)) ≡ z)) (sym is.0) (double_back z is.1)
 
 -- each of four doubles
@@ -110,7 +110,7 @@ scaled_hold v h = four_hold 16777216 v _ _ _ _ (scaled v.first (h First)) (scale
 -- doubles that hold whole numbers, as factors
 scaled_whole : (z : ℤ) (x : Float) → IsWhole x → numerator 1 x ≡ z → mul binary64 x unit ≡ double_of 16777216 z
 scaled_whole z x h e =
-    let is = whole_double x z h e in ap (λ (y : Float). mul binary64 y unit) is.0 ∙ scaled_double z is.1
+    let is = exact_double x z h e in ap (λ (y : Float). mul binary64 y unit) is.0 ∙ scaled_double z is.1
 
 pub scaled_wholes : (v : Lanes) (x y z w : Float) → IsWhole x → IsWhole y → IsWhole z → IsWhole w
     → numerator 1 x ≡ v.first → numerator 1 y ≡ v.second → numerator 1 z ≡ v.third → numerator 1 w ≡ v.fourth
@@ -120,10 +120,10 @@ scaled_wholes v x y z w hx hy hz hw ex ey ez ew =
     fits
   where
     fits : EachFits v
-    fits First = (whole_double x v.first hx ex).1
-    fits Second = (whole_double y v.second hy ey).1
-    fits Third = (whole_double z v.third hz ez).1
-    fits Fourth = (whole_double w v.fourth hw ew).1
+    fits First = (exact_double x v.first hx ex).1
+    fits Second = (exact_double y v.second hy ey).1
+    fits Third = (exact_double z v.third hz ez).1
+    fits Fourth = (exact_double w v.fourth hw ew).1
 
 -- ---- calculations
 

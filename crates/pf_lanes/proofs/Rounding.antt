@@ -63,10 +63,10 @@ size_is n k low high =
     (cases_lt (size n) (suc k))
 
 -- from one fraction to another
-whole_value : (x : Float) (m k : ℕ) → 0 < k → HasValue x false (m * k) k → HasValue x false m 1
-whole_value nan m k K h = h
-whole_value (inf s) m k K h = h
-whole_value (fin s n e) m k K h = (h.0, eq_of_mul-eq-mul_right k K (n * up e * 1) (m * down e) (omega (arith, h.1)))
+exact_value : (x : Float) (m k : ℕ) → 0 < k → HasValue x false (m * k) k → HasValue x false m 1
+exact_value nan m k K h = h
+exact_value (inf s) m k K h = h
+exact_value (fin s n e) m k K h = (h.0, eq_of_mul-eq-mul_right k K (n * up e * 1) (m * down e) (omega (arith, h.1)))
 
 scaled_up : (n a b : ℕ) → n * (a * b) ≡ n * a * b
 scaled_up n a b = omega arith
@@ -95,7 +95,7 @@ module _ (n : ℕ) (low : 2 ^ 76 ≤ n) (high : n < 2 ^ 77) where
       let near = closest-meets n 16777216 (lit< tt) in
       let short : closest n 16777216 ≤ 2 ^ 53 = omega (arith, near.high) in
       let most : closest n 16777216 * 2 ^ 1074 ≤ 2 ^ 53 * 2 ^ 1074 = mul-le-mul_right (2 ^ 1074) short in
-      whole_value _ (closest n 16777216) (2 ^ 1074) (lit< tt)
+      exact_value _ (closest n 16777216) (2 ^ 1074) (lit< tt)
       (subst (λ (g : ℕ). HasValue (round binary64 false n 16777216) false g (2 ^ 1074)) grid_is
       (round_val binary64 n 16777216 (subst (λ (g : ℕ). g < 2 ^ 2098) (sym grid_is) (lt_of_le_of_lt most (lit< tt)))))
 
@@ -106,8 +106,8 @@ module _ (n : ℕ) (low : 2 ^ 76 ≤ n) (high : n < 2 ^ 77) where
 closest_whole : (m : ℕ) → closest (m * 16777216) 16777216 ≡ m
 closest_whole m = let h = closest-meets (m * 16777216) 16777216 (lit< tt) in omega (arith, h.low, h.high)
 
-whole_units : (m : ℕ) → 2 ^ 52 ≤ m → m < 2 ^ 53 → round binary64 false m 1 ≡ units binary64 false m 1074
-whole_units m low high =
+exact_units : (m : ℕ) → 2 ^ 52 ≤ m → m < 2 ^ 53 → round binary64 false m 1 ≡ units binary64 false m 1074
+exact_units m low high =
     round_same binary64 false m 1 (m * 16777216) 16777216 (lit< tt) (lit< tt) (omega arith)
     ∙ rounded_units (m * 16777216) (omega arith) (omega arith)
     ∙ ap (λ (q : ℕ). units binary64 false q 1074) (closest_whole m)
@@ -115,7 +115,7 @@ whole_units m low high =
 pub rounded_double : (n : ℕ) → 2 ^ 76 ≤ n → n < 2 ^ 77 - 2 ^ 24 → round binary64 false n 16777216 ≡ round binary64 false (closest n 16777216) 1
 rounded_double n low high =
     let near = closest-meets n 16777216 (lit< tt) in
-    rounded_units n low (omega arith) ∙ sym (whole_units (closest n 16777216) (omega (arith, near.low, near.high)) (omega (arith, near.low, near.high)))
+    rounded_units n low (omega arith) ∙ sym (exact_units (closest n 16777216) (omega (arith, near.low, near.high)) (omega (arith, near.low, near.high)))
 
 -- ---- the great number subtracted again
 

@@ -1,7 +1,7 @@
 //! Whole numbers four at a time.
 
+use crate::exact::ExactDouble;
 use crate::scaled::{Scaled, UNIT};
-use crate::whole::WholeNumber;
 use std::marker::Model;
 use std::simd::prelude::*;
 
@@ -68,7 +68,7 @@ impl Lanes {
 
     /// These four whole numbers, which are doubles already.
     #[inline]
-    pub fn gather(numbers: [WholeNumber; 4]) -> Lanes
+    pub fn gather(numbers: [ExactDouble; 4]) -> Lanes
         ensures { result ≡ lanes_of numbers }
     {
         let [first, second, third, fourth] = numbers;
@@ -80,15 +80,15 @@ impl Lanes {
 
     /// The four whole numbers.
     #[inline]
-    pub fn parts(self) -> [WholeNumber; 4]
+    pub fn parts(self) -> [ExactDouble; 4]
         ensures { result ≡ list_of self }
     {
         let [first, second, third, fourth] = self.doubles.to_array();
         [
-            WholeNumber { double: first },
-            WholeNumber { double: second },
-            WholeNumber { double: third },
-            WholeNumber { double: fourth },
+            ExactDouble { double: first },
+            ExactDouble { double: second },
+            ExactDouble { double: third },
+            ExactDouble { double: fourth },
         ]
     }
 

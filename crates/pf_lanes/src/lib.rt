@@ -2,13 +2,13 @@
 //! four, calculated lane by lane with the bits of `pf_num`.
 #![tactic(auto)]
 
+mod exact;
 mod lanes;
 pub mod laws;
 mod scaled;
 mod shifted;
-mod whole;
 
+pub use exact::ExactDouble;
 pub use lanes::{EXACT_LIMIT, Lanes};
 pub use scaled::Scaled;
 pub use shifted::ShiftedLanes;
-pub use whole::WholeNumber;

@@ -1,7 +1,7 @@
 //! Factors of products.
 
+use crate::exact::ExactDouble;
 use crate::lanes::EXACT_LIMIT;
-use crate::whole::WholeNumber;
 use std::marker::Model;
 use std::simd::prelude::*;
 
@@ -51,7 +51,7 @@ impl Scaled {
 
     /// These four whole numbers of units of 2^-24, which are doubles already.
     #[inline]
-    pub fn gather(numbers: [WholeNumber; 4]) -> Scaled
+    pub fn gather(numbers: [ExactDouble; 4]) -> Scaled
         ensures { result ≡ lanes_of numbers }
     {
         let [first, second, third, fourth] = numbers;

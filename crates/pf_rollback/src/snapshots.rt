@@ -251,7 +251,7 @@ impl Snapshots {
         ensures err { OnErr result (self.new ≡ self.old) }
         ensures counted { let world = settled_world self.old in
             let found = collisions_of_tick scene.now world payloads.now work.old.manifolds in
-            OnOk result (work.new ≡ work_after_tick found work.new.moved work.old) }
+            OnOk result (work.new ≡ work_after_tick found work.new.dirty work.old) }
         ensures not_counted { OnErr result (work.new.meter ≡ work.old.meter) }
         ensures follows { KnowsWorld scene.now (settled_world self.new) work.new }
         ensures crew { let world = settled_world self.old in
@@ -312,7 +312,7 @@ impl Snapshots {
         if self.settled <= tick {
             return;
         }
-        work.forget_moved();
+        work.forget_dirty();
         let Some(mut world) = take_latest(&mut self.latest, &mut self.keyframes) else {
             unreachable!();
         };

@@ -23,7 +23,7 @@ use Rattle.pf_solver.specs.Impulse.{Motion, after_round, after_warm_start, frict
 use Rattle.pf_solver.specs.Solve.{pre_step_body, prepared_row, solved_batch}
 use Rattle.pf_solver.specs.Velocities.{Batch, Step, bodies_after, body_with, pass, passes, row_after, with_motion}
 use Rattle.pf_solver.proofs.Limits.{never_pulls, within_friction}
-use Rattle.pf_cache.proofs.Editing.{all_unmap}
+use Rattle.pf_cache.proofs.Splicing.{all_unmap}
 use Rattle.pf_islands.proofs.Elements.{set_other}
 
 -- a row without its accumulated impulses, the only part of it that a pass changes

@@ -27,7 +27,7 @@ use Rattle.pf_step.proofs.Apart.{groups_alone}
 use Rattle.pf_step.proofs.Commanding.{commands_length}
 use Rattle.pf_islands.proofs.Elements.{all_from, same_element}
 use Rattle.pf_step.proofs.Touching.{points_in_order}
-use Rattle.pf_cache.proofs.Editing.{all_unmap}
+use Rattle.pf_cache.proofs.Splicing.{all_unmap}
 
 -- some contact has the key of a contact point
 abbrev HasContact : List Contact → Touch → Type 0

@@ -17,7 +17,7 @@ use Rattle.pf_islands.specs.Split.{Island}
 use Rattle.pf_islands.proofs.Listed.{all_listed, awake_there}
 use Rattle.pf_step.specs.Changes.{BodyChange, bodies_before, change_if, change_of, changes_by_commands, changes_of, changes_of_islands, numbers_of}
 use Rattle.pf_step.specs.Commands.{after_commands}
-use Rattle.pf_step.specs.Work.{KnowsWorld, Work, moved_bodies}
+use Rattle.pf_step.specs.Work.{KnowsWorld, Work, dirty_bodies}
 use Rattle.pf_step.specs.World.{World}
 use Rattle.pf_step.proofs.Changing.{notes_of_all}
 use Rattle.pf_step.proofs.Commanding.{commands_before, commands_length}
@@ -91,37 +91,37 @@ islands_noted bodies islands have k wakes =
 -- ---- the next step
 
 -- after commands
-awake_after_commands : (s : Scene) (w : World) (payloads : List Payload) (work : Work) (moved : List ℕ)
+awake_after_commands : (s : Scene) (w : World) (payloads : List Payload) (work : Work) (dirty : List ℕ)
     (notes : List BodyChange) (after : List BodyState) → KnowsWorld s w work
     → notes ≡ changes_by_commands w.bodies payloads → after ≡ after_commands s.fixtures w.bodies payloads
-    → moved ≡ moved_bodies work.is_known work.moved (length w.bodies) (numbers_of notes)
-    → ListsAwake moved after
-awake_after_commands s w payloads work moved notes after follows noted after_is listed = by work.is_known refl
+    → dirty ≡ dirty_bodies work.is_known work.dirty (length w.bodies) (numbers_of notes)
+    → ListsAwake dirty after
+awake_after_commands s w payloads work dirty notes after follows noted after_is listed = by work.is_known refl
   where
-    by : (known : Bool) → work.is_known ≡ known → ListsAwake moved after
+    by : (known : Bool) → work.is_known ≡ known → ListsAwake dirty after
     by true known =
-        let list : moved ≡ work.moved ++ numbers_of notes =
-        listed ∙ ap (λ b. moved_bodies b work.moved (length w.bodies) (numbers_of notes)) known in
-        still_listed moved w.bodies after
+        let list : dirty ≡ work.dirty ++ numbers_of notes =
+        listed ∙ ap (λ b. dirty_bodies b work.dirty (length w.bodies) (numbers_of notes)) known in
+        still_listed dirty w.bodies after
         (λ k other.
         unlisted notes after w.bodies k (ap₂ bodies_before noted after_is ∙ commands_before s.fixtures w.bodies payloads)
-        (neither work.moved (numbers_of notes) k (sym (ap (λ ns. has_body ns k) list) ∙ other)).1)
+        (neither work.dirty (numbers_of notes) k (sym (ap (λ ns. has_body ns k) list) ∙ other)).1)
         (λ k wakes.
-        ap (λ ns. has_body ns k) list ∙ listed_first work.moved (numbers_of notes) w.bodies (follows known).3 k wakes)
+        ap (λ ns. has_body ns k) list ∙ listed_first work.dirty (numbers_of notes) w.bodies (follows known).3 k wakes)
     by false unknown =
-        all_listed moved (length w.bodies) after
-        (listed ∙ ap (λ b. moved_bodies b work.moved (length w.bodies) (numbers_of notes)) unknown)
+        all_listed dirty (length w.bodies) after
+        (listed ∙ ap (λ b. dirty_bodies b work.dirty (length w.bodies) (numbers_of notes)) unknown)
         (sym (ap length after_is ∙ commands_length s.fixtures w.bodies payloads))
 
 -- and all listed ones are bodies
-pub listed_after_commands : (s : Scene) (w : World) (payloads : List Payload) (work : Work) (moved : List ℕ)
+pub listed_after_commands : (s : Scene) (w : World) (payloads : List Payload) (work : Work) (dirty : List ℕ)
     (notes : List BodyChange) (after : List BodyState) → KnowsWorld s w work
     → notes ≡ changes_by_commands w.bodies payloads → after ≡ after_commands s.fixtures w.bodies payloads
-    → moved ≡ moved_bodies work.is_known work.moved (length w.bodies) (numbers_of notes)
-    → All (λ number. number < length after) moved × ListsAwake moved after
-listed_after_commands s w payloads work moved notes after follows noted after_is listed = (
-  (stayed_after_commands s w payloads work work.manifolds moved notes after follows refl noted after_is listed).0,
-  awake_after_commands s w payloads work moved notes after follows noted after_is listed,
+    → dirty ≡ dirty_bodies work.is_known work.dirty (length w.bodies) (numbers_of notes)
+    → All (λ number. number < length after) dirty × ListsAwake dirty after
+listed_after_commands s w payloads work dirty notes after follows noted after_is listed = (
+  (stayed_after_commands s w payloads work work.manifolds dirty notes after follows refl noted after_is listed).0,
+  awake_after_commands s w payloads work dirty notes after follows noted after_is listed,
 )
 
 -- after a step, where all that was awake before it is noted

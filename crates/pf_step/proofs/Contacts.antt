@@ -35,7 +35,7 @@ use Rattle.pf_islands.proofs.ActiveRows.{rows_in_order}
 use Rattle.pf_step.proofs.Commanding.{commands_length}
 use Rattle.pf_step.proofs.Lengths.{sim_length}
 use Rattle.pf_step.proofs.Touching.{points_in_order, points_of_bodies}
-use Rattle.pf_cache.proofs.Editing.{all_unmap}
+use Rattle.pf_cache.proofs.Splicing.{all_unmap}
 use Rattle.pf_manifold.proofs.BestAxis.{times-positive}
 
 -- ---- numbers

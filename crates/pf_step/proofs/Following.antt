@@ -24,7 +24,7 @@ use Rattle.pf_cache.specs.PlacedBodies.{HaveStayed, bodies_of}
 use Rattle.pf_islands.specs.Split.{Island}
 use Rattle.pf_step.specs.Changes.{AreAdded, BodyChange, bodies_before, change_if, change_of, changes_by_commands, changes_of_islands, numbers_of}
 use Rattle.pf_step.specs.Commands.{after_commands}
-use Rattle.pf_step.specs.Work.{KnowsWorld, Work, moved_bodies}
+use Rattle.pf_step.specs.Work.{KnowsWorld, Work, dirty_bodies}
 use Rattle.pf_step.specs.World.{World}
 use Rattle.pf_step.proofs.Changing.{notes_of_all, unchanged_stays}
 use Rattle.pf_step.proofs.Commanding.{commands_before, commands_length}
@@ -97,11 +97,11 @@ all_within bodies f (x ∷ xs) =
 
 -- an error that is not another is not that one of another call either
 pub other_error : {A B E : Type 0} (a b : E) → ◌≢◌ {A = Result A E} (Err a) (Err b) → ◌≢◌ {A = Result B E} (Err a) (Err b)
-other_error {A = A} {B = B} {E = E} a b differ same = differ (ap moved same)
+other_error {A = A} {B = B} {E = E} a b differ same = differ (ap dirty same)
   where
-    moved : Result B E → Result A E
-    moved (Ok value) = Err a
-    moved (Err error) = Err error
+    dirty : Result B E → Result A E
+    dirty (Ok value) = Err a
+    dirty (Err error) = Err error
 
 -- where there are no bodies none are noted
 pub none_noted : {X : Type 0} (bodies : List BodyState) (f : X → ℕ) (xs : List X) → bodies ≡ []
@@ -128,10 +128,10 @@ range_suc start zero = ap (λ m. m ∷ []) (none start)
     none : (m : ℕ) → m ≡ m + 0
     none m = omega arith
 range_suc start (suc n) =
-    ap (λ ns. start ∷ ns) (range_suc (start + 1) n ∙ ap (λ m. range_with_len (start + 1) n ++ m ∷ []) (moved start n))
+    ap (λ ns. start ∷ ns) (range_suc (start + 1) n ∙ ap (λ m. range_with_len (start + 1) n ++ m ∷ []) (dirty start n))
   where
-    moved : (m k : ℕ) → (m + 1) + k ≡ m + suc k
-    moved m k = omega arith
+    dirty : (m k : ℕ) → (m + 1) + k ≡ m + suc k
+    dirty m k = omega arith
 
 pub numbered_more : (first now next : List ℕ) (n : ℕ) → now ≡ first ++ range_with_len 0 n → next ≡ now ++ n ∷ []
     → next ≡ first ++ range_with_len 0 (n + 1)
@@ -156,29 +156,29 @@ listed_below n k below = has_body-below n k ∙ is_below
 -- ---- the next step
 
 -- after commands, only the listed bodies may have moved
-pub stayed_after_commands : (s : Scene) (w : World) (payloads : List Payload) (work : Work) (m : Manifolds) (moved : List ℕ)
+pub stayed_after_commands : (s : Scene) (w : World) (payloads : List Payload) (work : Work) (m : Manifolds) (dirty : List ℕ)
     (notes : List BodyChange) (after : List BodyState) → KnowsWorld s w work → m ≡ work.manifolds
     → notes ≡ changes_by_commands w.bodies payloads → after ≡ after_commands s.fixtures w.bodies payloads
-    → moved ≡ moved_bodies work.is_known work.moved (length w.bodies) (numbers_of notes)
-    → All (λ number. number < length after) moved × HaveStayed moved (bodies_of m) s.fixtures after
-stayed_after_commands s w payloads work m moved notes after follows m_is noted after_is listed = by work.is_known refl
+    → dirty ≡ dirty_bodies work.is_known work.dirty (length w.bodies) (numbers_of notes)
+    → All (λ number. number < length after) dirty × HaveStayed dirty (bodies_of m) s.fixtures after
+stayed_after_commands s w payloads work m dirty notes after follows m_is noted after_is listed = by work.is_known refl
   where
     long_after : length after ≡ length w.bodies
     long_after = ap length after_is ∙ commands_length s.fixtures w.bodies payloads
 
     by : (known : Bool) → work.is_known ≡ known
-        → All (λ number. number < length after) moved × HaveStayed moved (bodies_of m) s.fixtures after
+        → All (λ number. number < length after) dirty × HaveStayed dirty (bodies_of m) s.fixtures after
     by true known =
         let knows = follows known in
-        let list : moved ≡ work.moved ++ numbers_of notes =
-        listed ∙ ap (λ b. moved_bodies b work.moved (length w.bodies) (numbers_of notes)) known in
+        let list : dirty ≡ work.dirty ++ numbers_of notes =
+        listed ∙ ap (λ b. dirty_bodies b work.dirty (length w.bodies) (numbers_of notes)) known in
         let there = subst (All (λ c. c.number < length w.bodies)) (sym noted) (all_within w.bodies body_of payloads) in (
-          subst (λ n. All (λ number. number < n) moved) (sym long_after)
+          subst (λ n. All (λ number. number < n) dirty) (sym long_after)
               (subst (All (λ number. number < length w.bodies)) (sym list)
-              (All-append (λ (number : ℕ). number < length w.bodies) work.moved (numbers_of notes) knows.0
+              (All-append (λ (number : ℕ). number < length w.bodies) work.dirty (numbers_of notes) knows.0
               (numbers_within (length w.bodies) notes there))),
           λ long k below other.
-              let parts = neither work.moved (numbers_of notes) k (sym (ap (λ ns. has_body ns k) list) ∙ other) in
+              let parts = neither work.dirty (numbers_of notes) k (sym (ap (λ ns. has_body ns k) list) ∙ other) in
               let same = unlisted notes after w.bodies k
               (ap₂ bodies_before noted after_is ∙ commands_before s.fixtures w.bodies payloads) parts.1 in
               let stood = knows.1 (ap (λ (x : Manifolds). length x.shapes) (sym m_is) ∙ long ∙ long_after) k
@@ -190,9 +190,9 @@ stayed_after_commands s w payloads work m moved notes after follows m_is noted a
               ),
         )
     by false unknown =
-        let list : moved ≡ range_with_len 0 (length w.bodies) =
-        listed ∙ ap (λ b. moved_bodies b work.moved (length w.bodies) (numbers_of notes)) unknown in (
-          subst (λ n. All (λ number. number < n) moved) (sym long_after)
+        let list : dirty ≡ range_with_len 0 (length w.bodies) =
+        listed ∙ ap (λ b. dirty_bodies b work.dirty (length w.bodies) (numbers_of notes)) unknown in (
+          subst (λ n. All (λ number. number < n) dirty) (sym long_after)
               (subst (All (λ number. number < length w.bodies)) (sym list) (range_within (length w.bodies))),
           λ long k below other.
               absurd (true≢false (sym (listed_below (length w.bodies) k (omega (arith, below, long_after)))

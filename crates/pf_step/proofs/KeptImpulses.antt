@@ -27,7 +27,7 @@ use Rattle.pf_islands.proofs.Elements.{all_at, all_from, same_element}
 use Rattle.pf_step.proofs.Lengths.{sim_length}
 use Rattle.pf_step.proofs.Touching.{points_in_order, points_of_bodies}
 use Rattle.pf_step.proofs.Undisturbed.{contact_inactive, statics_sleep}
-use Rattle.pf_cache.proofs.Editing.{all_unmap}
+use Rattle.pf_cache.proofs.Splicing.{all_unmap}
 
 abbrev IsOther : ℕ → Touch → Type 0
 IsOther n t = rank (key_of t) ≢ n

@@ -52,7 +52,7 @@ use Rattle.pf_step.proofs.Joined.{active_group, any_mapped, awake_long, ended_at
 use Rattle.pf_step.proofs.Lengths.{world_after_length}
 use Rattle.pf_step.proofs.TickCases.{woken_at}
 use Rattle.pf_step.proofs.Touching.{points_of_bodies}
-use Rattle.pf_cache.proofs.Editing.{all_unmap}
+use Rattle.pf_cache.proofs.Splicing.{all_unmap}
 
 -- ---- elements of two parts
 

@@ -23,9 +23,9 @@ pub record IsStep {E : Type 0} (s : Scene) (w : World) (payloads : List Payload)
   pub unchanged : OnErr result (after ≡ w)
   pub bodies : length after.bodies ≡ length s.fixtures
   pub counted : OnOk result
-      (new ≡ work_after_tick (collisions_of_tick s w payloads old.manifolds) new.moved old)
+      (new ≡ work_after_tick (collisions_of_tick s w payloads old.manifolds) new.dirty old)
   pub not_counted : OnErr result
-      (new ≡ record old { manifolds = no_manifolds; moved = new.moved; is_known = false })
+      (new ≡ record old { manifolds = no_manifolds; dirty = new.dirty; is_known = false })
   pub follows : KnowsWorld s after new
 
 -- what a step with the payloads of a tick makes of a world that it only reads: the next one, with
@@ -35,9 +35,9 @@ pub record IsStepOfCopy {E : Type 0} (s : Scene) (w : World) (payloads : List Pa
     (old new : Work) (result : Result World E) : Type 0 where
   pub value : IfOk result (λ next. next ≡ step s w payloads)
   pub counted : OnOk result
-      (new ≡ work_after_tick (collisions_of_tick s w payloads old.manifolds) new.moved old)
+      (new ≡ work_after_tick (collisions_of_tick s w payloads old.manifolds) new.dirty old)
   pub not_counted : OnErr result
-      (new ≡ record old { manifolds = no_manifolds; moved = new.moved; is_known = false })
+      (new ≡ record old { manifolds = no_manifolds; dirty = new.dirty; is_known = false })
   pub follows : IfOk result (λ next. KnowsWorld s next new)
 
 -- What the phases after Commands do to a world, of which some changes of bodies are noted already.

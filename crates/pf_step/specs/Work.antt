@@ -14,41 +14,41 @@ use Rattle.pf_step.specs.World.{World}
 pub record Work : Type 0 where
   pub meter : Meter
   pub manifolds : Manifolds
-  pub moved : List ℕ
+  pub dirty : List ℕ
   pub is_known : Bool
 
 abbrev pub no_work : Work
 no_work = record {
   meter = record { ticks = 0; collides = 0 };
   manifolds = no_manifolds;
-  moved = [];
+  dirty = [];
   is_known = false;
 }
 
 -- the work after a tick with this narrow phase, in which these bodies may have moved
 abbrev pub work_after_tick : Collisions → List ℕ → Work → Work
-work_after_tick found moved w = record {
+work_after_tick found dirty w = record {
   meter = record {
     ticks = saturating_sum w.meter.ticks 1;
     collides = saturating_sum w.meter.collides found.computed;
   };
   manifolds = found.manifolds;
-  moved = moved;
+  dirty = dirty;
   is_known = true;
 }
 
 -- which bodies may have moved once commands are applied: those that may have before, and the
 -- commanded ones; where the former are not known, all of so many
-abbrev pub moved_bodies : Bool → List ℕ → ℕ → List ℕ → List ℕ
-moved_bodies true moved count commanded = moved ++ commanded
-moved_bodies false moved count commanded = range_with_len 0 count
+abbrev pub dirty_bodies : Bool → List ℕ → ℕ → List ℕ → List ℕ
+dirty_bodies true dirty count commanded = dirty ++ commanded
+dirty_bodies false dirty count commanded = range_with_len 0 count
 
 -- where a work knows which bodies of a world may have moved: these are bodies of the world; where
 -- as many bodies are kept, all others stand as they were kept; the contacts have the keys of the
 -- kept contact points; and each awake body is one of those that may have moved
 abbrev pub KnowsWorld : Scene → World → Work → Type 0
 KnowsWorld s world w =
-    w.is_known ≡ true → All (λ number. number < length world.bodies) w.moved
-    × HaveStayed w.moved (bodies_of w.manifolds) s.fixtures world.bodies
+    w.is_known ≡ true → All (λ number. number < length world.bodies) w.dirty
+    × HaveStayed w.dirty (bodies_of w.manifolds) s.fixtures world.bodies
     × (map (λ c. c.key) world.contacts ≡ map key_of (kept_touches w.manifolds))
-    × ListsAwake w.moved world.bodies
+    × ListsAwake w.dirty world.bodies

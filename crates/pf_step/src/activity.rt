@@ -41,8 +41,8 @@ pub(crate) fn split_and_note(
     requires order { AreTouches (touches_of_scene scene.now world.now.bodies) }
     requires keys { map (λ c. c.key) world.now.contacts
         ≡ map key_of (touches_of_scene scene.now world.now.bodies) }
-    requires awake { All (λ number. number < length world.now.bodies) work.old.moved
-        × ListsAwake work.old.moved world.now.bodies }
+    requires awake { All (λ number. number < length world.now.bodies) work.old.dirty
+        × ListsAwake work.old.dirty world.now.bodies }
     ensures parts { IfOk result (AreParts scene.now (length world.now.bodies) lone
         (islands_with scene.now world.now.contacts world.now.bodies)) }
     ensures noted { OnOk result (
@@ -68,7 +68,7 @@ pub(crate) fn split_and_note(
         &world.bodies,
         manifolds,
         world.contacts.as_slice(),
-        work.moved(),
+        work.dirty(),
         lone,
     )?;
     changes.note_islands(&world.bodies, &parts.islands)?;

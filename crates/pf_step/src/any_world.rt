@@ -36,7 +36,7 @@ pub fn step_by<P: Collider, C: Crew>(
         CallsCrew C.is_called C.may_fail islands crew.old crew.new result }
     ensures no_memory { world.old.bodies ≡ [] → result ≢ Err OutOfMemory }
 {
-    work.forget_moved();
+    work.forget_dirty();
     step_next(collider, alloc, scene, world, payloads, work, crew)
 }
 

@@ -4,7 +4,7 @@ ghost use Rattle.std.specs.Prelude.{◌≡◌, ◌≢◌, ◌≤◌, ◌+◌, �
 ghost use Rattle.pf_step.specs.Changes.{bodies_before, change_of, changes_of};
 
 use crate::work::Work;
-use pf_cache::{Contacts, ContactsChange, KeyEdits, Manifolds};
+use pf_cache::{Contacts, ContactsChange, KeySplices, Manifolds};
 use pf_commands::Payload;
 use pf_islands::Island;
 use pf_shapes::BodyState;
@@ -139,7 +139,7 @@ impl Changes {
     ghost use Rattle.pf_cache.specs.Contact.{next_contacts};
     ghost use Rattle.pf_cache.specs.ContactRows.{AreRowsAt};
     ghost use Rattle.pf_cache.specs.ContactsChange.{contacts_before};
-    ghost use Rattle.pf_cache.specs.KeyEdits.{AreEditsBetween};
+    ghost use Rattle.pf_cache.specs.KeySplices.{AreSplicesBetween};
     ghost use Rattle.pf_cache.specs.Manifolds.{kept_touches};
     ghost use Rattle.pf_step.specs.Changes.{bodies_before, changes_by_commands, changes_of, changes_of_islands, no_changes, MayChange};
 
@@ -224,7 +224,7 @@ impl Changes {
     }
 
     /// Replaces the contacts of the last tick by those of the points of `manifolds`, and keeps what
-    /// that changes. `key_edits` say how the keys of the points changed since the last tick, if
+    /// that changes. `key_splices` say how the keys of the points changed since the last tick, if
     /// that is known; with `is_known` the contacts have the keys that these points had then, in the
     /// same order. With `may_stay`, contacts whose keys all stay may stay in place (no clause says
     /// that they do). After an error the contacts are as they were, and undoing leaves them so.
@@ -233,13 +233,13 @@ impl Changes {
         alloc: Global,
         contacts: &mut Contacts,
         manifolds: &Manifolds,
-        key_edits: &Option<KeyEdits>,
+        key_splices: &Option<KeySplices>,
         is_known: bool,
         may_stay: bool,
     ) -> Result<(), AllocError>
         requires order { AreTouches (kept_touches manifolds.now) }
-        requires known { IsTrue is_known → IfSome key_edits.now
-            (λ edits. AreEditsBetween edits (map (λ c. c.key) contacts.old)
+        requires known { IsTrue is_known → IfSome key_splices.now
+            (λ splices. AreSplicesBetween splices (map (λ c. c.key) contacts.old)
             (map key_of (kept_touches manifolds.now))) }
         ensures value { OnOk result
             (contacts.new ≡ next_contacts contacts.old (kept_touches manifolds.now)) }
@@ -249,8 +249,8 @@ impl Changes {
         ensures bodies { self.new.bodies ≡ self.old.bodies }
         ensures no_memory { kept_touches manifolds.now ≡ [] → IsOk result }
     {
-        match key_edits {
-            Some(edits) if is_known => contacts.edit(edits, may_stay, &mut self.contacts),
+        match key_splices {
+            Some(splices) if is_known => contacts.splice(splices, may_stay, &mut self.contacts),
             _ => {
                 self.contacts.clear();
                 let keys = manifolds.keys(alloc)?;

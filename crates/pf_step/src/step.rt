@@ -34,8 +34,8 @@ use std::alloc::Global;
 /// Whether fewer than half of the bodies, rounded down, may have moved; a body may be counted
 /// twice. Where there are more, making all contacts anew takes less time than noting those that
 /// change.
-fn few_may_have_moved(moved: usize, bodies: usize) -> bool {
-    moved < bodies / 2
+fn few_may_have_moved(dirty: usize, bodies: usize) -> bool {
+    dirty < bodies / 2
 }
 
 /// Makes of a world the one that is one tick of 1/64 s later, with the payloads of the tick's
@@ -73,7 +73,7 @@ pub fn step_next<P: Collider, C: Crew>(
     // Commands
     changes.note_commanded(&world.bodies, payloads)?;
     let count = world.bodies.as_slice().len();
-    work.list_moved(is_known, count, changes.bodies())?;
+    work.list_dirty(is_known, count, changes.bodies())?;
     apply_all(scene.fixtures(), &mut world.bodies, payloads);
     // Points to Sleep
     let finished = finish_tick(
@@ -121,9 +121,9 @@ fn finish_tick<P: Collider, C: Crew>(
     requires bodies { length world.old.bodies ≡ length scene.now.fixtures }
     requires known { IsTrue is_known → map (λ c. c.key) world.old.contacts
         ≡ map key_of (kept_touches kept) }
-    requires moved { All (λ number. number < length world.old.bodies) work.old.moved
-        × HaveStayed work.old.moved (bodies_of kept) scene.now.fixtures world.old.bodies
-        × ListsAwake work.old.moved world.old.bodies }
+    requires dirty { All (λ number. number < length world.old.bodies) work.old.dirty
+        × HaveStayed work.old.dirty (bodies_of kept) scene.now.fixtures world.old.bodies
+        × ListsAwake work.old.dirty world.old.bodies }
     requires contacts { changes.old.contacts ≡ no_contacts_change }
     ensures found { IfOk result
         (λ found. found ≡ collisions_of_bodies scene.now.fixtures world.old.bodies kept) }
@@ -134,21 +134,21 @@ fn finish_tick<P: Collider, C: Crew>(
     ensures crew { let islands = islands_of_bodies scene.now world.old.contacts world.old.bodies
         in CallsCrew C.is_called C.may_fail islands crew.old crew.new result }
     ensures awake { OnOk result (ListsAwake (numbers_of changes.new.bodies) world.new.bodies) }
-    ensures moved { OnOk result (work.new.moved ≡ numbers_of changes.new.bodies) }
-    ensures work { work.new ≡ record work.old { moved = work.new.moved } }
+    ensures dirty { OnOk result (work.new.dirty ≡ numbers_of changes.new.bodies) }
+    ensures work { work.new ≡ record work.old { dirty = work.new.dirty } }
     ensures no_memory { world.old.bodies ≡ [] → changes.old.bodies ≡ []
         → result ≢ Err OutOfMemory }
 {
     // Points
-    let may_stay = few_may_have_moved(work.moved().len(), scene.fixtures().len());
-    let found = find_collisions(collider, alloc, scene, &world.bodies, kept, work.moved())?;
+    let may_stay = few_may_have_moved(work.dirty().len(), scene.fixtures().len());
+    let found = find_collisions(collider, alloc, scene, &world.bodies, kept, work.dirty())?;
     let manifolds = &found.collisions.manifolds;
-    let key_edits = &found.key_edits;
+    let key_splices = &found.key_splices;
     changes.update_contacts(
         alloc,
         &mut world.contacts,
         manifolds,
-        key_edits,
+        key_splices,
         is_known,
         may_stay,
     )?;
@@ -156,7 +156,7 @@ fn finish_tick<P: Collider, C: Crew>(
     let lone = crew.lone_bodies();
     let parts = split_and_note(alloc, scene, world, manifolds, work, changes, lone)?;
     // Before the crew is called: a step that is out of memory must not have called it.
-    work.set_moved(changes.bodies())?;
+    work.set_dirty(changes.bodies())?;
     // Gravity to Sleep
     let solved = solve_by(crew, scene, parts.islands, lone)?;
     solve_lone_bodies(scene, &mut world.bodies, &parts.lone_numbers);

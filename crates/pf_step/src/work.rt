@@ -22,7 +22,7 @@ pub struct Work {
     manifolds: Manifolds,
     /// The bodies that may have moved since the contact points were kept, if that is known: among
     /// them all that are awake.
-    moved: Vec<usize>,
+    dirty: Vec<usize>,
     /// Whether it is known which bodies may have moved, and that the contacts of the world have the
     /// keys of the kept points.
     is_known: bool,
@@ -40,7 +40,7 @@ impl Model for Work {
     ghost view = { λ w. record {
       meter = w.meter;
       manifolds = w.manifolds;
-      moved = w.moved.items;
+      dirty = w.dirty.items;
       is_known = w.is_known;
     } };
 }
@@ -73,7 +73,7 @@ impl Work {
     ghost use Rattle.std.specs.Prelude.{◌≡◌, false, [], IsOk, OnOk};
     ghost use Rattle.pf_cache.specs.Manifolds.{no_manifolds};
     ghost use Rattle.pf_step.specs.Changes.{no_changes, numbers_of};
-    ghost use Rattle.pf_step.specs.Work.{moved_bodies, no_work, work_after_tick};
+    ghost use Rattle.pf_step.specs.Work.{dirty_bodies, no_work, work_after_tick};
 
     /// With nothing counted and nothing kept. Takes no memory.
     pub fn new(alloc: Global) -> Work
@@ -82,7 +82,7 @@ impl Work {
         Work {
             meter: Meter::NONE,
             manifolds: Manifolds::new(alloc),
-            moved: Vec::new(alloc),
+            dirty: Vec::new(alloc),
             is_known: false,
             spare_changes: Changes::new(alloc),
             spare_islands: Vec::new(alloc),
@@ -107,7 +107,7 @@ impl Work {
     /// Forgets which bodies may have moved, so that the next step compares all bodies, and the keys
     /// of all contacts. Needed before a [`step_next`](crate::step_next) of another world than the
     /// last step left. Takes no memory.
-    pub fn forget_moved(&mut self)
+    pub fn forget_dirty(&mut self)
         ensures { self.new ≡ record self.old { is_known = false } }
     {
         self.is_known = false;
@@ -129,40 +129,40 @@ impl Work {
     /// Lists the bodies that may have moved after commands: those listed before and the commanded
     /// ones; where the former are not known, all of so many. After an error some of them may be
     /// listed.
-    pub(crate) fn list_moved(
+    pub(crate) fn list_dirty(
         &mut self,
         is_known: bool,
         count: usize,
         commanded: &[BodyChange],
     ) -> Result<(), AllocError>
-        ensures listed { OnOk result (self.new.moved
-            ≡ moved_bodies is_known self.old.moved count (numbers_of commanded.now)) }
-        ensures rest { self.new ≡ record self.old { moved = self.new.moved } }
+        ensures listed { OnOk result (self.new.dirty
+            ≡ dirty_bodies is_known self.old.dirty count (numbers_of commanded.now)) }
+        ensures rest { self.new ≡ record self.old { dirty = self.new.dirty } }
         ensures no_memory { count ≡ 0 → commanded.now ≡ [] → IsOk result }
     {
         if is_known {
-            return add_numbers(&mut self.moved, commanded);
+            return add_numbers(&mut self.dirty, commanded);
         }
-        self.moved.clear();
-        add_all(&mut self.moved, count)
+        self.dirty.clear();
+        add_all(&mut self.dirty, count)
     }
 
     /// The bodies that may have moved.
-    pub(crate) fn moved(&self) -> &[usize]
-        ensures { result.now ≡ self.now.moved }
+    pub(crate) fn dirty(&self) -> &[usize]
+        ensures { result.now ≡ self.now.dirty }
     {
-        self.moved.as_slice()
+        self.dirty.as_slice()
     }
 
     /// Lists the bodies of these changes, and no others, as those that may have moved. After an
     /// error some of them may be listed.
-    pub(crate) fn set_moved(&mut self, changes: &[BodyChange]) -> Result<(), AllocError>
-        ensures listed { OnOk result (self.new.moved ≡ numbers_of changes.now) }
-        ensures rest { self.new ≡ record self.old { moved = self.new.moved } }
+    pub(crate) fn set_dirty(&mut self, changes: &[BodyChange]) -> Result<(), AllocError>
+        ensures listed { OnOk result (self.new.dirty ≡ numbers_of changes.now) }
+        ensures rest { self.new ≡ record self.old { dirty = self.new.dirty } }
         ensures no_memory { changes.now ≡ [] → IsOk result }
     {
-        self.moved.clear();
-        add_numbers(&mut self.moved, changes)
+        self.dirty.clear();
+        add_numbers(&mut self.dirty, changes)
     }
 
     /// Keeps the memory of these islands for those of the next tick.
@@ -193,7 +193,7 @@ impl Work {
     /// Counts a tick and its pairs that could not reuse kept points, and keeps the contact points
     /// of its pairs. The bodies that are listed are all that may have moved since.
     pub(crate) fn end_tick(&mut self, found: Collisions)
-        ensures { self.new ≡ work_after_tick found self.old.moved self.old }
+        ensures { self.new ≡ work_after_tick found self.old.dirty self.old }
     {
         self.meter.count_tick();
         self.meter.count_collides(found.computed as u64);

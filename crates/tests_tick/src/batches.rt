@@ -66,7 +66,7 @@ fn are_from_lanes(islands: &[Island]) -> bool {
     let Some(island) = islands.first() else {
         return false;
     };
-    let Some(numbers) = &island.workspace.numbers else {
+    let Some(numbers) = &island.workspace.unknowns else {
         return false;
     };
     match (numbers.velocities().first(), island.bodies.first()) {
@@ -178,7 +178,7 @@ fn rounds_of_a_pyramid_overlap(rt: HostRuntime) -> Result<(), Fail> {
 
 #[test]
 fn laws_are_called(_rt: HostRuntime) {
-    laws::numbers_are_solved_as_the_batch();
+    laws::unknowns_are_solved_as_the_batch();
     laws::named_limits();
 }
 

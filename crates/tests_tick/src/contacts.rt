@@ -6,7 +6,7 @@ ghost use Rattle.pf_manifold.specs.Key.{AreTouches};
 
 use crate::pairs_of_scenes::found;
 use crate::scenes::scene_of;
-use pf_cache::{Contact, Contacts, ContactsChange, KeyEdits, Meter};
+use pf_cache::{Contact, Contacts, ContactsChange, KeySplices, Meter};
 use pf_manifold::Touch;
 use pf_rows::Impulses;
 use std::alloc::Global;
@@ -92,14 +92,14 @@ fn contacts_are_those_of_the_points(rt: HostRuntime) -> Result<(), Fail> {
 }
 
 /// Whether the contacts of both boxes stay as they are where no key changes.
-fn stay_unedited(
+fn stay_unspliced(
     alloc: Global,
     contacts: &mut Contacts,
     may_stay: bool,
     change: &mut ContactsChange,
 ) -> Result<bool, Fail> {
     let before = are_of_both_boxes(contacts.as_slice());
-    contacts.edit(&KeyEdits::new(alloc), may_stay, change)?;
+    contacts.splice(&KeySplices::new(alloc), may_stay, change)?;
     Ok(before && are_of_both_boxes(contacts.as_slice()))
 }
 
@@ -111,8 +111,8 @@ fn are_kept(
     change: &mut ContactsChange,
 ) -> Result<bool, Fail> {
     update(alloc, contacts, change, BOTH_STAND)?;
-    let in_place = stay_unedited(alloc, contacts, true, change)?;
-    let copied = stay_unedited(alloc, contacts, false, change)?;
+    let in_place = stay_unspliced(alloc, contacts, true, change)?;
+    let copied = stay_unspliced(alloc, contacts, false, change)?;
     let mut later = ContactsChange::new(alloc);
     update(alloc, contacts, &mut later, ONE_STANDS)?;
     contacts.undo_copied(change)?;

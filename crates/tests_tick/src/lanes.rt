@@ -4,7 +4,7 @@ ghost use Rattle.std.specs.Prelude.{◌<◌, ◌≤◌, ◌^◌};
 ghost use Rattle.std.specs.Int.RustNames.{unsigned_abs};
 ghost use Rattle.pf_lanes.specs.Lanes.{Lane, number_in, lanes_of};
 
-use pf_lanes::{EXACT_LIMIT, Lanes, Scaled, WholeNumber, laws};
+use pf_lanes::{EXACT_LIMIT, ExactDouble, Lanes, Scaled, laws};
 use pf_num::Fx;
 
 /// The greatest whole number that a double counts without a gap, less 1.
@@ -125,10 +125,10 @@ fn each_call_once(rt: HostRuntime) {
 fn numbers_go_in_and_out_as_doubles(rt: HostRuntime) {
     let great = 1 << 53;
     let numbers = [
-        WholeNumber::of(-great),
-        WholeNumber::zero(),
-        WholeNumber::of(great),
-        WholeNumber::of(-1),
+        ExactDouble::of(-great),
+        ExactDouble::zero(),
+        ExactDouble::of(great),
+        ExactDouble::of(-1),
     ];
     assert!(rt; raw(Lanes::gather(numbers)) == [-great, 0, great, -1]);
     assert!(rt; raw(Lanes::zero()) == [0; 4]);

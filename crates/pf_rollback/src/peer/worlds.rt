@@ -79,7 +79,7 @@ impl PeerCore {
         }
         let work = &mut self.work;
         let result = simulate_from(alloc, &self.scene, &self.commands, kept, tick, work);
-        self.work.forget_moved();
+        self.work.forget_dirty();
         let world = result?;
         self.commands.drop_before(tick);
         self.snapshots.seal(tick, world);

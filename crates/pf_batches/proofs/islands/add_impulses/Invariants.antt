@@ -4,7 +4,7 @@ use Rattle.pf_batches.proofs.islands.add_impulses.Given as goal
 
 abbrev pub invariant-loop-row : goal.invariant-loop-row
 invariant-loop-row l = record {
-  value : l.numbers.impulses ≡ l.initial.numbers.impulses ++ map (λ r. r.entry.impulses) (take l.row-index l.rows);
-  size : All (AreWithin l.limit) l.initial.numbers.impulses → All (AreWithin l.limit) l.numbers.impulses;
-  velocities : l.numbers.velocities ≡ l.initial.numbers.velocities;
+  value : l.unknowns.impulses ≡ l.initial.unknowns.impulses ++ map (λ r. r.entry.impulses) (take l.row-index l.rows);
+  size : All (AreWithin l.limit) l.initial.unknowns.impulses → All (AreWithin l.limit) l.unknowns.impulses;
+  velocities : l.unknowns.velocities ≡ l.initial.unknowns.velocities;
 }

@@ -1,6 +1,6 @@
 use Rattle.std.proofs.Common.{◌∙◌, ap, ap₂, arith, get_or, set, sym}
-use Rattle.pf_batches.specs.Numbers.{loaded_row}
-use Rattle.pf_batches.proofs.Numbers.{one_given}
+use Rattle.pf_batches.specs.Unknowns.{loaded_row}
+use Rattle.pf_batches.proofs.Unknowns.{one_given}
 use Rattle.pf_batches.proofs.islands.store_impulses.Goals as goal
 
 pub loop-place-preserved : goal.loop-place-preserved

@@ -1,7 +1,7 @@
 use Rattle.std.proofs.Common.{◌∙◌, ap, ap₂, arith, get_or, set, sym}
-use Rattle.pf_bundles.specs.Numbers.{Velocity}
-use Rattle.pf_batches.specs.Numbers.{moving_body}
-use Rattle.pf_batches.proofs.Numbers.{one_given}
+use Rattle.pf_bundles.specs.Unknowns.{Velocity}
+use Rattle.pf_batches.specs.Unknowns.{moving_body}
+use Rattle.pf_batches.proofs.Unknowns.{one_given}
 use Rattle.pf_batches.proofs.islands.store_velocities.Goals as goal
 
 pub loop-place-preserved : goal.loop-place-preserved

@@ -1,5 +1,5 @@
 use Rattle.std.proofs.Common.{◌≡◌, take}
-use Rattle.pf_batches.specs.Numbers.{with_velocities}
+use Rattle.pf_batches.specs.Unknowns.{with_velocities}
 use Rattle.pf_batches.proofs.islands.store_velocities.Given as goal
 
 abbrev pub invariant-loop-place : goal.invariant-loop-place

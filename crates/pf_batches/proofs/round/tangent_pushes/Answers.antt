@@ -15,7 +15,7 @@ use Rattle.pf_batches.proofs.round.tangent_pushes.Goals as goal
 pub minus-least-requires : goal.minus-least-requires
 minus-least-requires c = λ k.
     let size : unsigned_abs (number_in k c.times-limit.result) ≤ 536870912 = c.times-limit.ensures.size k in
-    let old : unsigned_abs (number_in k c.args.state.now.tangent) ≤ 1125900980584448 = grind (arith, common_steps, c.requires.numbers k) in
+    let old : unsigned_abs (number_in k c.args.state.now.tangent) ≤ 1125900980584448 = grind (arith, common_steps, c.requires.unknowns k) in
     grind (arith, common_steps, c.negated.ensures k, size, old)
 
 -- what is added in each lane
@@ -28,7 +28,7 @@ pushed c k =
     let m = state_in k p c.args.state.now in
     let limit : number_in k c.times-limit.result ≡ product own.friction m.impulses.normal = grind (arith, common_steps, c.times-limit.ensures.value k) in
     let size : unsigned_abs (number_in k c.times-limit.result) ≤ 536870912 = c.times-limit.ensures.size k in
-    let old : unsigned_abs m.impulses.tangent ≤ 1125900980584448 = grind (arith, common_steps, c.requires.numbers k) in
+    let old : unsigned_abs m.impulses.tangent ≤ 1125900980584448 = grind (arith, common_steps, c.requires.unknowns k) in
     let change : number_in k c.negated-change.result ≡ neg_ℤ (product own.tangent_mass (dot (relative_velocity own m) own.tangent)) =
     grind (arith, common_steps, c.negated-change.ensures k, c.times.ensures.value k, c.speed_along-speed.ensures.value k, c.relative_velocity-velocity.ensures k) in
     let small : unsigned_abs (number_in k c.negated-change.result) ≤ 536870912 = grind (arith, common_steps, c.negated-change.ensures k, c.times.ensures.size k) in

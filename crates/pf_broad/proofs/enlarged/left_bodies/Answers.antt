@@ -13,11 +13,11 @@ pub returns : goal.returns
 returns c =
     let bs = c.args.bounds.now in
     let enlarged = c.args.enlarged.now in
-    let moved = c.args.moved.now in
+    let dirty = c.args.dirty.now in
     let left = λ (k : ℕ). not (contains (bounds_at enlarged k) (bounds_at bs k)) in
     let found = c.loop-number.left.items in
     let all : (j : ℕ) → has_body found j ≡ (left j && nat_lt j (length bs)) = λ j.
-    ap (λ l. has_body l j) (c.loop-number.invariant ∙ ap (filter left) (take_all c.loop-number.number-index moved c.loop-number-test.false))
-    ∙ has_body-filter left moved j ∙ left-listed enlarged bs moved c.requires.moved c.requires.others j in
+    ap (λ l. has_body l j) (c.loop-number.invariant ∙ ap (filter left) (take_all c.loop-number.number-index dirty c.loop-number-test.false))
+    ∙ has_body-filter left dirty j ∙ left-listed enlarged bs dirty c.requires.dirty c.requires.others j in
     dedup_is _ _ _ c.dedup.ensures.filtered
     ∙ sorted_once left (length bs) found c.sort_unstable.new.self.items all c.sort_unstable.ensures.permutation c.sort_unstable.ensures.sorted

@@ -14,21 +14,21 @@ loop-pair-preserved c =
     let i = c.loop-pair.pair-index in
     let place = c.loop-pair.place in
     let inv = c.loop-pair.invariant in
-    let passed = c.pass-passed.result in
+    let passed = c.advance_to-passed.result in
     let next = c.push_carried-place.result in
     let slots = c.loop-pair.slots.items in
     let after = c.push_carried-place.new.slots.items in
     record {
       within = c.push_carried-place.ensures.within;
-      behind = behind_more old pairs i place passed.end p c.loop-pair-test.true c.pair-item.is inv.behind c.pass-passed.ensures.same
+      behind = behind_more old pairs i place passed.end p c.loop-pair-test.true c.pair-item.is inv.behind c.advance_to-passed.ensures.same
           next c.push_carried-place.ensures.later (pairs_rise pairs c.requires.ascending c.requires.pairs);
-      made = made_more old pairs i place passed.end p c.loop-pair-test.true c.pair-item.is inv.behind c.pass-passed.ensures.same
+      made = made_more old pairs i place passed.end p c.loop-pair-test.true c.pair-item.is inv.behind c.advance_to-passed.ensures.same
           slots after inv.made c.push_carried-place.ensures.items;
       points = λ all.
           let both = and_parts c.loop-pair.has_all passed.are_empty all in
           points_more slots after (carried_slot (drop passed.end old) p) (flat_map slot_touches (drop next old))
           (flat_map slot_touches (drop passed.end old)) (flat_map slot_touches (drop place old)) (flat_map slot_touches old)
-          c.push_carried-place.ensures.items c.push_carried-place.ensures.touches (c.pass-passed.ensures.empty both.1) (inv.points both.0);
+          c.push_carried-place.ensures.items c.push_carried-place.ensures.touches (c.advance_to-passed.ensures.empty both.1) (inv.points both.0);
       count = search rules;
       room = search rules;
     }

@@ -37,7 +37,7 @@ refresh_slots-requires-clause-collided g c =
 pub returns-clause-slots : goal.returns-clause-slots
 returns-clause-slots g c =
     let placed = c.args.placed.now in
-    c.in_ok-key_edits.ensures.slots
+    c.in_ok-key_splices.ensures.slots
     ∙ (λ i. map (refreshed_slot (c.bounds-bounds.ensures.value i) (c.in_ok-stale.ensures.unmoved i) (c.shapes.ensures.value i)) c.args.slots.now)
     ∙ all_refreshed placed.bounds c.args.unmoved.items placed.shapes c.args.slots.now c.requires.kept
 

@@ -32,8 +32,8 @@ loop-number-init c =
 
 pub refresh_body-is_unmoved-requires : goal.refresh_body-is_unmoved-requires
 refresh_body-is_unmoved-requires c =
-    let within = c.requires.moved c.loop-number.number-index 0 c.loop-number-test.true in
-    c.loop-number.invariant.each (get_or c.args.moved.now c.loop-number.number-index 0)
+    let within = c.requires.dirty c.loop-number.number-index 0 c.loop-number-test.true in
+    c.loop-number.invariant.each (get_or c.args.dirty.now c.loop-number.number-index 0)
     (omega (arith, within, c.requires.bounds.as_many, c.loop-number.auto.shapes)) c.index-shapes-number.result c.index-bounds-number.result
 
 pub loop-number-preserved : goal.loop-number-preserved
@@ -43,18 +43,18 @@ loop-number-preserved c =
     let old = c.args.shapes.now in
     let shapes = c.loop-number.shapes in
     let bounds = c.loop-number.bounds in
-    let moved = c.args.moved.now in
+    let dirty = c.args.dirty.now in
     let i = c.loop-number.number-index in
     let new = placed_shapes fixtures bodies in
     let new_bounds = all_bounds fixtures bodies in
-    let n = get_or moved i 0 in
+    let n = get_or dirty i 0 in
     let fixture = c.index-fixtures-number.result in
     let body = c.index-bodies-number.result in
     let shape = c.refresh_body-is_unmoved.new.shape in
     let bound = c.refresh_body-is_unmoved.new.bounds in
     let here = c.loop-number-test.true in
-    let n_is : n ≡ get_or moved i n = get_or_default moved i 0 n here in
-    let listed = c.requires.moved i 0 here in
+    let n_is : n ≡ get_or dirty i n = get_or_default dirty i 0 n here in
+    let listed = c.requires.dirty i 0 here in
     let within : n < length shapes = omega (arith, listed, c.requires.bounds.as_many, c.loop-number.auto.shapes) in
     let as_within : n < length bounds = omega (arith, listed, c.loop-number.auto.bounds) in
     let fixture_there : n < length fixtures = omega (arith, listed, c.requires.bounds.as_many, c.requires.fixtures) in
@@ -79,9 +79,9 @@ loop-number-preserved c =
     let still = length-set shapes n shape in
     let as_still = length-set bounds n bound in
     record {
-      shapes = λ k below behind. same_after shapes new moved i n k shape here n_is long within shape_is
+      shapes = λ k below behind. same_after shapes new dirty i n k shape here n_is long within shape_is
           (c.loop-number.invariant.shapes k (omega (arith, below, still))) behind;
-      bounds = λ k below behind. same_after bounds new_bounds moved i n k bound here n_is as_long as_within bound_is
+      bounds = λ k below behind. same_after bounds new_bounds dirty i n k bound here n_is as_long as_within bound_is
           (c.loop-number.invariant.bounds k (omega (arith, below, as_still))) behind;
       each = λ k below. bounded_after shapes bounds n k fixture body shape bound within as_within
           c.refresh_body-is_unmoved.ensures.shape c.refresh_body-is_unmoved.ensures.bounds c.refresh_body-is_unmoved.ensures.ordered
@@ -98,13 +98,13 @@ loop-number-preserved c =
 pub returns-clause-shapes : goal.returns-clause-shapes
 returns-clause-shapes c =
     let long = length-placed_shapes c.args.fixtures.now c.args.bodies.now (omega (arith, c.requires.fixtures, c.requires.bodies)) in
-    same_all c.loop-number.shapes (placed_shapes c.args.fixtures.now c.args.bodies.now) c.args.moved.now c.loop-number.number-index
+    same_all c.loop-number.shapes (placed_shapes c.args.fixtures.now c.args.bodies.now) c.args.dirty.now c.loop-number.number-index
     (omega (arith, long, c.requires.bodies, c.loop-number.auto.shapes)) c.loop-number-test.false c.loop-number.invariant.shapes
 
 pub returns-clause-bounds : goal.returns-clause-bounds
 returns-clause-bounds c =
     let long = length-all_bounds c.args.fixtures.now c.args.bodies.now (omega (arith, c.requires.fixtures, c.requires.bodies)) in
-    same_all c.loop-number.bounds (all_bounds c.args.fixtures.now c.args.bodies.now) c.args.moved.now c.loop-number.number-index
+    same_all c.loop-number.bounds (all_bounds c.args.fixtures.now c.args.bodies.now) c.args.dirty.now c.loop-number.number-index
     (omega (arith, long, c.requires.bodies, c.requires.bounds.as_many, c.loop-number.auto.bounds)) c.loop-number-test.false
     c.loop-number.invariant.bounds
 
@@ -117,7 +117,7 @@ pub returns-clause-unmoved : goal.returns-clause-unmoved
 returns-clause-unmoved c =
     let new = placed_shapes c.args.fixtures.now c.args.bodies.now in
     let shapes_long = length-placed_shapes c.args.fixtures.now c.args.bodies.now (omega (arith, c.requires.fixtures, c.requires.bodies)) in
-    let are = same_all c.loop-number.shapes new c.args.moved.now c.loop-number.number-index
+    let are = same_all c.loop-number.shapes new c.args.dirty.now c.loop-number.number-index
     (omega (arith, shapes_long, c.requires.bodies, c.loop-number.auto.shapes)) c.loop-number-test.false c.loop-number.invariant.shapes in
     let flags_long = ap length c.requires.flags ∙ length-replicate (length c.args.shapes.now) true in
     flags_all c.loop-number.unmoved c.loop-number.shapes c.args.shapes.now new (omega (arith, shapes_long, c.requires.bodies))

@@ -11,9 +11,9 @@ use Rattle.pf_cache.proofs.placed_bodies.refresh_bodies.Given as goal
 
 abbrev pub invariant-loop-number : goal.invariant-loop-number
 invariant-loop-number l = record {
-  shapes : (k : ℕ) → k < length l.shapes → has_body (drop l.number-index l.moved) k ≡ false
+  shapes : (k : ℕ) → k < length l.shapes → has_body (drop l.number-index l.dirty) k ≡ false
       → IsSameAt l.shapes (placed_shapes l.fixtures l.bodies) k;
-  bounds : (k : ℕ) → k < length l.bounds → has_body (drop l.number-index l.moved) k ≡ false
+  bounds : (k : ℕ) → k < length l.bounds → has_body (drop l.number-index l.dirty) k ≡ false
       → IsSameAt l.bounds (all_bounds l.fixtures l.bodies) k;
   each : (k : ℕ) → k < length l.shapes → (s : PlacedShape) (b : Bounds)
       → AreBoundsOf (get_or l.shapes k s) (get_or l.bounds k b);

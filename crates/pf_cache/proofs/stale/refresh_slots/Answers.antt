@@ -7,13 +7,13 @@ use Rattle.pf_shapes.specs.declared.scene.TheConstants.{MAX_BODIES}
 use Rattle.pf_broad.specs.Pairs.{pair_may_touch}
 use Rattle.pf_manifold.specs.Key.{key_of}
 use Rattle.pf_manifold.specs.declared.manifold.Manifold.{Manifold}
-use Rattle.pf_cache.specs.KeyEdits.{AreEditsUpTo}
+use Rattle.pf_cache.specs.KeySplices.{AreSplicesUpTo}
 use Rattle.pf_cache.specs.Slots.{Slot, pairs_to_compute, is_stale, manifold_touches, refreshed_slot, slot_of, slot_touches}
 use Rattle.pf_cache.specs.Stale.{AreNextPoints}
-use Rattle.pf_cache.proofs.EditsMade.{no_edits_so_far}
+use Rattle.pf_cache.proofs.SplicesMade.{no_splices_so_far}
 use Rattle.pf_cache.proofs.FewTouches.{up_to}
 use Rattle.pf_cache.proofs.Filling.{Follow, Next, both_if_some, first_points_are, if_some}
-use Rattle.pf_cache.proofs.RefreshSteps.{ascend_here, edits_in_the_end, edits_now, pair_here, pairs_here, slot_now, slots_now}
+use Rattle.pf_cache.proofs.RefreshSteps.{ascend_here, splices_in_the_end, splices_now, pair_here, pairs_here, slot_now, slots_now}
 use Rattle.pf_cache.specs.Manifolds.{points_of_pair}
 use Rattle.pf_cache.proofs.Refreshing.{refreshed_stale, refreshed_stays, slots_left}
 use Rattle.pf_cache.proofs.SlotPlaces.{at_next, count_more, no_place, others_left, started, walked_next, within_next}
@@ -33,8 +33,8 @@ loop-place-init c = (
         first_points_are c.args.shapes.now touches.items (pairs_to_compute c.args.bounds.now c.args.stale.now.unmoved.items c.args.slots.now)
         (are ∙ ap (flat_map (points_of_pair c.args.shapes.now)) c.requires.stale.computed))
         c.requires.collided;
-    edits =
-        subst (λ e. AreEditsUpTo e 0 [] []) (sym c.new-edits.ensures) no_edits_so_far;
+    splices =
+        subst (λ e. AreSplicesUpTo e 0 [] []) (sym c.new-splices.ensures) no_splices_so_far;
   },
 )
 
@@ -119,7 +119,7 @@ overflow_add-kept c =
     let l = c.loop-place in
     let walked = l.invariant.0 in
     let at = at_next (is_stale bounds unmoved) places old l.place-index walked c.deref-place-items.result.now no_place c.deref-place-items.ensures.value c.loop-place-test.true in
-    let kept_is = l.invariant.1.edits.1 in
+    let kept_is = l.invariant.1.splices.1 in
     let keys = length-map (flat_map slot_touches walked.front) key_of in
     let skipped_is = at.skipped_is in
     let sum = count_more walked.front at.others _ _ refl refl in
@@ -137,7 +137,7 @@ replace-requires-clause-room c =
     let walked = l.invariant.0 in
     let at = at_next (is_stale bounds unmoved) places old l.place-index walked c.deref-place-items.result.now no_place c.deref-place-items.ensures.value c.loop-place-test.true in
     let slot_is = slot_now bounds unmoved shapes places old l.place-index walked _ at l.slots l.invariant.1.slots c.index-slots-place.result in
-    let kept_is = l.invariant.1.edits.1 in
+    let kept_is = l.invariant.1.splices.1 in
     let keys = length-map (flat_map slot_touches walked.front) key_of in
     let skipped_is = at.skipped_is in
     let sum = count_more walked.front at.others _ _ refl refl in
@@ -172,11 +172,11 @@ loop-place-preserved c =
             subst (λ p. Follow shapes touches.items l.start c.points_at-points.result.1 p (pair_may_touch bounds p)) pair_is follow later up
             (subst (AreNextPoints shapes touches.items l.start) (pairs_here bounds unmoved shapes places old l.place-index walked _ at) are))
             c.points_at-points.ensures.next l.invariant.1.next;
-        edits = edits_now bounds unmoved shapes places old l.place-index walked _ at l.edits c.replace.new.edits l.kept c.in_ok-kept.kept c.replace.new.self
-            l.invariant.1.edits new_is
+        splices = splices_now bounds unmoved shapes places old l.place-index walked _ at l.splices c.replace.new.splices l.kept c.in_ok-kept.kept c.replace.new.self
+            l.invariant.1.splices new_is
             (λ before after are.
-            subst (λ s. AreEditsUpTo c.replace.new.edits c.in_ok-kept.kept (before ++ map key_of (slot_touches s)) (after ++ map key_of (slot_touches c.replace.new.self))) slot_is
-            (c.in_ok-kept.ensures.edits before after are));
+            subst (λ s. AreSplicesUpTo c.replace.new.splices c.in_ok-kept.kept (before ++ map key_of (slot_touches s)) (after ++ map key_of (slot_touches c.replace.new.self))) slot_is
+            (c.in_ok-kept.ensures.splices before after are));
       },
     )
 
@@ -191,8 +191,8 @@ returns-clause-slots c =
     let fail = others_left stale places c.args.slots.now l.place-index walked c.deref-place-items.result.now c.deref-place-items.ensures.value c.loop-place-test.false in
     slots_left (refreshed_slot bounds unmoved c.args.shapes.now) stale (refreshed_stays bounds unmoved c.args.shapes.now) walked.front walked.rest fail c.args.slots.now l.slots walked.whole l.invariant.1.slots
 
-pub returns-clause-edits : goal.returns-clause-edits
-returns-clause-edits c =
+pub returns-clause-splices : goal.returns-clause-splices
+returns-clause-splices c =
     let l = c.loop-place in
-    edits_in_the_end c.args.bounds.now c.args.stale.now.unmoved.items c.args.shapes.now c.args.stale.now.places.items c.args.slots.now l.place-index l.invariant.0
-    l.edits l.kept l.slots l.invariant.1.edits l.invariant.1.slots
+    splices_in_the_end c.args.bounds.now c.args.stale.now.unmoved.items c.args.shapes.now c.args.stale.now.places.items c.args.slots.now l.place-index l.invariant.0
+    l.splices l.kept l.slots l.invariant.1.splices l.invariant.1.slots

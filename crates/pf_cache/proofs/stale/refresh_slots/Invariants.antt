@@ -1,9 +1,9 @@
 use Rattle.std.proofs.Common.{◌≡◌, ◌++◌, map}
 use Rattle.std.specs.Prelude.{IfSome}
-use Rattle.pf_cache.specs.KeyEdits.{AreEditsUpTo}
+use Rattle.pf_cache.specs.KeySplices.{AreSplicesUpTo}
 use Rattle.pf_cache.specs.Slots.{pairs_to_compute, is_stale, refreshed_slot}
 use Rattle.pf_cache.specs.Stale.{AreNextPoints}
-use Rattle.pf_cache.proofs.EditsMade.{keys_of}
+use Rattle.pf_cache.proofs.SplicesMade.{keys_of}
 use Rattle.pf_cache.proofs.SlotPlaces.{Walked}
 use Rattle.pf_cache.proofs.stale.refresh_slots.Given as goal
 
@@ -15,5 +15,5 @@ invariant-loop-place l =
     × record {
       slots : l.slots ≡ map refreshed walked.front ++ walked.rest;
       next : IfSome l.collided (λ touches. AreNextPoints l.shapes touches.items l.start (pairs_to_compute l.bounds unmoved walked.rest));
-      edits : AreEditsUpTo l.edits l.kept (keys_of walked.front) (keys_of (map refreshed walked.front));
+      splices : AreSplicesUpTo l.splices l.kept (keys_of walked.front) (keys_of (map refreshed walked.front));
     }

@@ -8,7 +8,7 @@ use Rattle.pf_manifold.specs.Key.{AreTouches, key_of}
 use Rattle.pf_cache.specs.Contact.{Contact, next_contacts}
 use Rattle.pf_cache.specs.ContactRows.{AreRowsAt}
 use Rattle.pf_cache.specs.ContactsChange.{ContactsChange, contacts_before}
-use Rattle.pf_cache.specs.KeyEdits.{AreEditsBetween}
+use Rattle.pf_cache.specs.KeySplices.{AreSplicesBetween}
 use Rattle.pf_cache.specs.Manifolds.{kept_touches}
 use Rattle.pf_cache.specs.declared.manifolds.FoundCollisions.{FoundCollisions}
 use Rattle.pf_cache.proofs.Kept.{same_keys}
@@ -139,10 +139,10 @@ pub update_contacts-requires-clause-known : goal.update_contacts-requires-clause
 update_contacts-requires-clause-known g c = λ known.
     let found = c.in_ok-found.found in
     let keys = ap (λ (v : World). map (λ (x : Contact). x.key) v.contacts) c.world.view_is ∙ c.requires.known known in
-    subst (λ (x : FoundCollisions). IfSome x.key_edits (λ edits. AreEditsBetween edits
+    subst (λ (x : FoundCollisions). IfSome x.key_splices (λ splices. AreSplicesBetween splices
     (map (λ (k : Contact). k.key) c.world.inside.contacts) (map key_of (kept_touches x.collisions.manifolds)))) (sym c.found.view_is)
-    (subst (λ before. IfSome found.key_edits (λ edits. AreEditsBetween edits before (map key_of (kept_touches found.collisions.manifolds))))
-    (sym keys) c.in_ok-found.ensures.key_edits)
+    (subst (λ before. IfSome found.key_splices (λ splices. AreSplicesBetween splices before (map key_of (kept_touches found.collisions.manifolds))))
+    (sym keys) c.in_ok-found.ensures.key_splices)
 
 pub split_and_note-requires-clause-order : goal.split_and_note-requires-clause-order
 split_and_note-requires-clause-order g c =
@@ -245,10 +245,10 @@ returns-in_err-parts-clause-tick g c = record {
   added = search rules;
 }
 
-pub returns-in_err-set_moved-clause-tick : goal.returns-in_err-set_moved-clause-tick
-returns-in_err-set_moved-clause-tick g c = record {
+pub returns-in_err-set_dirty-clause-tick : goal.returns-in_err-set_dirty-clause-tick
+returns-in_err-set_dirty-clause-tick g c = record {
   value = search rules;
-  before = undone g (goal.at.returns-in_err-set_moved-clause-tick g c).After-split_and_note;
+  before = undone g (goal.at.returns-in_err-set_dirty-clause-tick g c).After-split_and_note;
   added = search rules;
 }
 

@@ -16,14 +16,14 @@ use Rattle.pf_step.specs.Changes.{AreAdded, BodyChange, Changes, changes_by_comm
 use Rattle.pf_step.specs.Commands.{after_commands}
 use Rattle.pf_step.specs.Step.{collisions_of_bodies, step, touches_of_scene, world_after}
 use Rattle.pf_step.specs.Stepping.{FailsBy}
-use Rattle.pf_step.specs.Work.{Work, moved_bodies, work_after_tick}
+use Rattle.pf_step.specs.Work.{Work, dirty_bodies, work_after_tick}
 use Rattle.pf_step.specs.World.{World}
 use Rattle.pf_step.proofs.Commanding.{commands_length, commands_undone}
 use Rattle.pf_step.proofs.Awake.{listed_after_commands}
 use Rattle.pf_step.proofs.Contacts.{step_keys}
 use Rattle.pf_step.proofs.Following.{all_within, none_noted, other_error, stayed_after_commands, stayed_after_step}
 use Rattle.pf_step.proofs.Lengths.{step_length}
-use Rattle.pf_step.proofs.step.step_next.Goals.{After-apply_all, In_ok-list_moved, In_ok-note_commanded}
+use Rattle.pf_step.proofs.step.step_next.Goals.{After-apply_all, In_ok-list_dirty, In_ok-note_commanded}
 use Rattle.pf_step.proofs.step.step_next.Goals as goal
 use Rattle.pf_step.proofs.Empty.{none_long}
 
@@ -46,24 +46,24 @@ commands_noted g c =
     (ap (λ (x : Changes). x.bodies) c.take_changes-changes.ensures.changes) (c.deref.ensures.value ∙ ap (λ (x : World). x.bodies) c.world.view_is)
 
 -- the work while a tick runs
-work_listed : (g : _) (c : In_ok-list_moved g) → c.list_moved.new.self ≡ record c.args.work.now {
+work_listed : (g : _) (c : In_ok-list_dirty g) → c.list_dirty.new.self ≡ record c.args.work.now {
   manifolds = no_manifolds;
-  moved = c.list_moved.new.self.moved;
+  dirty = c.list_dirty.new.self.dirty;
   is_known = false;
 }
 work_listed g c =
-    c.list_moved.ensures.rest
-    ∙ (λ i. record ((c.take_changes-changes.ensures.work ∙ c.take_manifolds-kept.ensures.rest) i) { moved = c.list_moved.new.self.moved })
+    c.list_dirty.ensures.rest
+    ∙ (λ i. record ((c.take_changes-changes.ensures.work ∙ c.take_manifolds-kept.ensures.rest) i) { dirty = c.list_dirty.new.self.dirty })
 
 -- the bodies that may have moved are listed
-moved_are : (g : _) (c : In_ok-list_moved g)
-    → c.list_moved.new.self.moved ≡ moved_bodies c.args.work.now.is_known c.args.work.now.moved (length c.args.world.now.bodies)
+dirty_are : (g : _) (c : In_ok-list_dirty g)
+    → c.list_dirty.new.self.dirty ≡ dirty_bodies c.args.work.now.is_known c.args.work.now.dirty (length c.args.world.now.bodies)
     (numbers_of c.bodies.result.now)
-moved_are g c =
-    let listed = ap (λ (x : Work). x.moved) (c.take_changes-changes.ensures.work ∙ c.take_manifolds-kept.ensures.rest) in
+dirty_are g c =
+    let listed = ap (λ (x : Work). x.dirty) (c.take_changes-changes.ensures.work ∙ c.take_manifolds-kept.ensures.rest) in
     let count = ap length (c.as_slice-count.ensures.value ∙ ap (λ (x : World). x.bodies) c.world.view_is) in
-    c.in_ok-list_moved.ensures.listed
-    ∙ (λ i. moved_bodies (c.take_manifolds-kept.ensures.taken.1 i) (listed i) (count i) (numbers_of c.bodies.result.now))
+    c.in_ok-list_dirty.ensures.listed
+    ∙ (λ i. dirty_bodies (c.take_manifolds-kept.ensures.taken.1 i) (listed i) (count i) (numbers_of c.bodies.result.now))
 
 pub returns-in-Ok-clause-step : goal.returns-in-Ok-clause-step
 unfolding step world_before
@@ -80,13 +80,13 @@ returns-in-Ok-clause-step g c =
     ∙ ap₂ (λ (bs : List BodyState) (kept : Manifolds). collisions_of_bodies s.fixtures bs kept)
     commanded c.take_manifolds-kept.ensures.taken.0 in
     let b = (with_items c.world.inside.bodies c.apply_all.new.bodies).items in
-    let moved_is = ap (λ (x : Work). x.moved) c.end_tick.ensures ∙ c.in-Ok.ensures.moved in
+    let dirty_is = ap (λ (x : Work). x.dirty) c.end_tick.ensures ∙ c.in-Ok.ensures.dirty in
     let manifolds_is = ap (λ (x : Work). x.manifolds) c.end_tick.ensures in
-    let work_before = work_listed g (goal.at.returns-in-Ok-clause-step g c).In_ok-list_moved in
+    let work_before = work_listed g (goal.at.returns-in-Ok-clause-step g c).In_ok-list_dirty in
     let stand =
     subst (λ (x : List ℕ × Manifolds). All (λ number. number < length c.finish_tick-finished.new.world.bodies) x.0
     × HaveStayed x.0 (bodies_of x.1) s.fixtures c.finish_tick-finished.new.world.bodies)
-    (λ i. (sym moved_is i, sym manifolds_is i))
+    (λ i. (sym dirty_is i, sym manifolds_is i))
     (stayed_after_step s w.bodies b c.finish_tick-finished.new.world.bodies c.in-Ok.collisions.manifolds c.note_commanded.new.self.bodies
     c.finish_tick-finished.new.changes.bodies (ap (λ (x : World). length x.bodies) value ∙ step_length s w payloads c.requires.world ∙ sym c.requires.world)
     (ap (λ (x : Collisions). x.manifolds.shapes) c.in-Ok.ensures.found) (ap (λ (x : Collisions). x.manifolds.bounds) c.in-Ok.ensures.found)
@@ -100,7 +100,7 @@ returns-in-Ok-clause-step g c =
     ap (λ (x : World). map (λ (y : Contact). y.key) x.contacts) value ∙ step_keys s w payloads
     ∙ ap (λ bs. map key_of (touches_of_scene s bs)) (sym commanded)
     ∙ ap (map key_of) (sym c.in-Ok.ensures.touches) ∙ ap (λ m. map key_of (kept_touches m)) (sym manifolds_is) in
-    let awake = subst (λ ns. ListsAwake ns c.finish_tick-finished.new.world.bodies) (sym moved_is) c.in-Ok.ensures.awake in
+    let awake = subst (λ ns. ListsAwake ns c.finish_tick-finished.new.world.bodies) (sym dirty_is) c.in-Ok.ensures.awake in
     record {
       value = value;
       before = c.in-Ok.ensures.tick.before
@@ -109,8 +109,8 @@ returns-in-Ok-clause-step g c =
       unchanged = tt;
       bodies = ap (λ (x : World). length x.bodies) value ∙ step_length s w payloads c.requires.world;
       counted = c.end_tick.ensures
-          ∙ (λ i. work_after_tick (found i) (sym (ap (λ (x : Work). x.moved) c.end_tick.ensures) i)
-          ((c.finish_tick-finished.ensures.work ∙ (λ j. record (work_before j) { moved = c.finish_tick-finished.new.work.moved })) i));
+          ∙ (λ i. work_after_tick (found i) (sym (ap (λ (x : Work). x.dirty) c.end_tick.ensures) i)
+          ((c.finish_tick-finished.ensures.work ∙ (λ j. record (work_before j) { dirty = c.finish_tick-finished.new.work.dirty })) i));
       not_counted = tt;
       follows = λ known. (stand.0, stand.1, keys, awake);
     }
@@ -125,29 +125,29 @@ returns-in-Ok-clause-crew g c =
     (ap₂ (λ (cs : List Contact) (bs : List BodyState). islands_of_bodies s cs bs) contacts commanded)
     c.in-Ok.ensures.crew
 
-pub finish_tick-finished-requires-clause-moved : goal.finish_tick-finished-requires-clause-moved
-finish_tick-finished-requires-clause-moved g c =
+pub finish_tick-finished-requires-clause-dirty : goal.finish_tick-finished-requires-clause-dirty
+finish_tick-finished-requires-clause-dirty g c =
     let s = c.args.scene.now in
     let w = c.args.world.now in
     let payloads = c.args.payloads.now in
     let work = c.args.work.now in
-    let at = goal.at.finish_tick-finished-requires-clause-moved g c in
+    let at = goal.at.finish_tick-finished-requires-clause-dirty g c in
     let commanded = commanded_are g at.After-apply_all in
     let notes = c.bodies.ensures ∙ commands_noted g at.In_ok-note_commanded in
-    let moved = moved_are g at.In_ok-list_moved in
+    let dirty = dirty_are g at.In_ok-list_dirty in
     let b = (with_items c.world.inside.bodies c.apply_all.new.bodies).items in
-    let stayed = stayed_after_commands s w payloads work c.take_manifolds-kept.result.0 c.list_moved.new.self.moved c.bodies.result.now b
-    c.requires.follows c.take_manifolds-kept.ensures.taken.0 notes commanded moved in
-    let awake = listed_after_commands s w payloads work c.list_moved.new.self.moved c.bodies.result.now b
-    c.requires.follows notes commanded moved in
+    let stayed = stayed_after_commands s w payloads work c.take_manifolds-kept.result.0 c.list_dirty.new.self.dirty c.bodies.result.now b
+    c.requires.follows c.take_manifolds-kept.ensures.taken.0 notes commanded dirty in
+    let awake = listed_after_commands s w payloads work c.list_dirty.new.self.dirty c.bodies.result.now b
+    c.requires.follows notes commanded dirty in
     (stayed.0, stayed.1, awake.1)
 
-pub returns-in_err-list_moved-clause-no_memory : goal.returns-in_err-list_moved-clause-no_memory
-returns-in_err-list_moved-clause-no_memory g c none _ =
+pub returns-in_err-list_dirty-clause-no_memory : goal.returns-in_err-list_dirty-clause-no_memory
+returns-in_err-list_dirty-clause-no_memory g c none _ =
     let of_world = ap (λ (x : World). x.bodies) c.world.view_is in
     let payloads = c.args.payloads.now in
-    let notes = commands_noted g (goal.at.returns-in_err-list_moved-clause-no_memory g c).In_ok-note_commanded in
-    absurd (true≢false (sym (c.in_err-list_moved.ensures.no_memory (ap length (c.as_slice-count.ensures.value ∙ of_world ∙ none))
+    let notes = commands_noted g (goal.at.returns-in_err-list_dirty-clause-no_memory g c).In_ok-note_commanded in
+    absurd (true≢false (sym (c.in_err-list_dirty.ensures.no_memory (ap length (c.as_slice-count.ensures.value ∙ of_world ∙ none))
     (c.bodies.ensures ∙ notes ∙ none_noted c.args.world.now.bodies body_of payloads none))))
 
 pub returns-in-Err-clause-no_memory : goal.returns-in-Err-clause-no_memory
@@ -170,15 +170,15 @@ returns-in-Err-clause-step g c =
     let commanded = commanded_are g (goal.at.returns-in-Err-clause-step g c).After-apply_all in
     let contacts = ap (λ (x : World). x.contacts) c.world.view_is in
     let notes = commands_noted g (goal.at.returns-in-Err-clause-step g c).In_ok-note_commanded in
-    let work_before = work_listed g (goal.at.returns-in-Err-clause-step g c).In_ok-list_moved in
+    let work_before = work_listed g (goal.at.returns-in-Err-clause-step g c).In_ok-list_dirty in
     let unchanged = c.undo.ensures ∙ c.in-Err.ensures.tick.before
     ∙ ap₂ (λ bs cs. record { bodies = bs; contacts = cs }) (commands_undone s.fixtures w.bodies _ payloads _ notes commanded) contacts in
     let not_counted : c.finish_tick-finished.new.work ≡ record c.args.work.now {
       manifolds = no_manifolds;
-      moved = c.finish_tick-finished.new.work.moved;
+      dirty = c.finish_tick-finished.new.work.dirty;
       is_known = false;
     } =
-    c.finish_tick-finished.ensures.work ∙ (λ i. record (work_before i) { moved = c.finish_tick-finished.new.work.moved }) in
+    c.finish_tick-finished.ensures.work ∙ (λ i. record (work_before i) { dirty = c.finish_tick-finished.new.work.dirty }) in
     record {
       value = tt;
       before = tt;

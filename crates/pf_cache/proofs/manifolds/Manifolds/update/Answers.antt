@@ -9,7 +9,7 @@ use Rattle.pf_broad.specs.Enlarged.{AreEnlarged, contains}
 use Rattle.pf_broad.specs.Pairs.{all_bounds, bounds_at, no_bounds, pair_may_touch, pairs}
 use Rattle.pf_broad.proofs.Enlarging.{pairs-of-candidates}
 use Rattle.pf_manifold.specs.Key.{key_of}
-use Rattle.pf_cache.specs.KeyEdits.{AreEditsBetween, KeyEdits, no_edits}
+use Rattle.pf_cache.specs.KeySplices.{AreSplicesBetween, KeySplices, no_splices}
 use Rattle.pf_cache.specs.Live.{AreLive}
 use Rattle.pf_cache.specs.Manifolds.{computed_count, kept_touches, placed_shapes, points_of_pair}
 use Rattle.pf_cache.specs.PlacedBodies.{HaveStayed, PlacedBodies, bodies_of}
@@ -19,53 +19,53 @@ use Rattle.pf_cache.proofs.FewTouches.{few_carried}
 use Rattle.pf_cache.proofs.SlotsKept.{kept_touches_are_few, carried_pairs, counted_stale, kept_bodies, kept_own, kept_pairs, kept_points, kept_rise, now_kept, reused, stayed, all_stay, none_listed, none_stale}
 use Rattle.pf_cache.proofs.Standing.{same_at}
 use Rattle.pf_cache.proofs.manifolds.Manifolds.update.Goals.{then-has_all, else-has_all}
-use Rattle.pf_cache.proofs.EditsMade.{no_edits_between}
+use Rattle.pf_cache.proofs.SplicesMade.{no_splices_between}
 use Rattle.pf_cache.proofs.manifolds.Manifolds.update.Goals as goal
 
 pub returns-then-shapes-bodies-clause-manifolds : goal.returns-then-shapes-bodies-clause-manifolds
 returns-then-shapes-bodies-clause-manifolds g c =
     let fixtures = c.args.scene.now.fixtures in
     let bodies = c.args.bodies.now in
-    let moved = c.args.moved.now in
+    let dirty = c.args.dirty.now in
     let old = c.self-then-is_empty-2.inside.placed in
-    let none = eqb-true (length moved) 0 (sym c.if-is_empty-2.ensures) in
+    let none = eqb-true (length dirty) 0 (sym c.if-is_empty-2.ensures) in
     let same = sym (ap length c.shapes.ensures.value) ∙ c.if-shapes-bodies.true in
-    let stood = subst (λ m. HaveStayed moved (bodies_of m) fixtures bodies) (sym c.self-then-is_empty-2.view_is) c.requires.others in
+    let stood = subst (λ m. HaveStayed dirty (bodies_of m) fixtures bodies) (sym c.self-then-is_empty-2.view_is) c.requires.others in
     c.found-then-shapes-bodies.ensures.manifolds ∙ sym c.self-then-is_empty-2.view_is
     ∙ all_stay fixtures bodies c.self-then-is_empty-2.inside.broad_phase old.bounds old.shapes c.self-then-is_empty-2.inside.slots.items c.self-then-is_empty-2.invariant.0 c.requires.bodies
-    c.shapes.ensures.bounds same (λ k below. stood same k below (none_listed moved k none))
+    c.shapes.ensures.bounds same (λ k below. stood same k below (none_listed dirty k none))
 
 pub returns-then-shapes-bodies-clause-computed : goal.returns-then-shapes-bodies-clause-computed
 returns-then-shapes-bodies-clause-computed g c =
     let fixtures = c.args.scene.now.fixtures in
     let bodies = c.args.bodies.now in
-    let moved = c.args.moved.now in
+    let dirty = c.args.dirty.now in
     let old = c.self-then-is_empty-2.inside.placed in
-    let none = eqb-true (length moved) 0 (sym c.if-is_empty-2.ensures) in
+    let none = eqb-true (length dirty) 0 (sym c.if-is_empty-2.ensures) in
     let same = sym (ap length c.shapes.ensures.value) ∙ c.if-shapes-bodies.true in
-    let stood = subst (λ m. HaveStayed moved (bodies_of m) fixtures bodies) (sym c.self-then-is_empty-2.view_is) c.requires.others in
+    let stood = subst (λ m. HaveStayed dirty (bodies_of m) fixtures bodies) (sym c.self-then-is_empty-2.view_is) c.requires.others in
     c.found-then-shapes-bodies.ensures.computed ∙ none_stale fixtures bodies c.self-then-is_empty-2.inside.broad_phase old.bounds old.shapes c.self-then-is_empty-2.inside.slots.items c.self-then-is_empty-2.invariant.0 c.requires.bodies
-    c.shapes.ensures.bounds same (λ k below. stood same k below (none_listed moved k none))
+    c.shapes.ensures.bounds same (λ k below. stood same k below (none_listed dirty k none))
     ∙ ap (λ m. computed_count m (placed_shapes fixtures bodies) (pairs (all_bounds fixtures bodies))) c.self-then-is_empty-2.view_is
 
-pub returns-then-shapes-bodies-clause-key_edits : goal.returns-then-shapes-bodies-clause-key_edits
-returns-then-shapes-bodies-clause-key_edits g c =
+pub returns-then-shapes-bodies-clause-key_splices : goal.returns-then-shapes-bodies-clause-key_splices
+returns-then-shapes-bodies-clause-key_splices g c =
     let found = c.found-then-shapes-bodies.result in
     let keys = map key_of (kept_touches c.args.self) in
     let same : keys ≡ map key_of (kept_touches found.collisions.manifolds) =
     ap (λ m. map key_of (kept_touches m)) (sym c.found-then-shapes-bodies.ensures.manifolds) in
-    subst (λ o. IfSome o (λ e. AreEditsBetween e keys (map key_of (kept_touches found.collisions.manifolds)))) (sym c.found-then-shapes-bodies.ensures.key_edits)
-    (subst (λ e. AreEditsBetween e keys (map key_of (kept_touches found.collisions.manifolds))) (sym c.new-then-shapes-bodies.ensures)
-    (subst (AreEditsBetween no_edits keys) same (no_edits_between keys)))
+    subst (λ o. IfSome o (λ e. AreSplicesBetween e keys (map key_of (kept_touches found.collisions.manifolds)))) (sym c.found-then-shapes-bodies.ensures.key_splices)
+    (subst (λ e. AreSplicesBetween e keys (map key_of (kept_touches found.collisions.manifolds))) (sym c.new-then-shapes-bodies.ensures)
+    (subst (AreSplicesBetween no_splices keys) same (no_splices_between keys)))
 
 pub update-requires-2-clause-bodies : goal.update-requires-2-clause-bodies
 update-requires-2-clause-bodies g c =
     sym (as_many_bounds c.args.scene.now.fixtures c.args.bodies.now c.in_ok-placed.placed c.bounds.result.now c.requires.bodies
     c.in_ok-placed.ensures.placed c.bounds.ensures.value)
 
-pub update-requires-2-clause-moved : goal.update-requires-2-clause-moved
-update-requires-2-clause-moved g c =
-    subst (λ n. All (λ number. number < n) c.args.moved.now) (update-requires-2-clause-bodies g c) c.requires.moved
+pub update-requires-2-clause-dirty : goal.update-requires-2-clause-dirty
+update-requires-2-clause-dirty g c =
+    subst (λ n. All (λ number. number < n) c.args.dirty.now) (update-requires-2-clause-bodies g c) c.requires.dirty
 
 pub update-requires-2-clause-others : goal.update-requires-2-clause-others
 update-requires-2-clause-others g c = λ as_many k below other.
@@ -77,7 +77,7 @@ update-requires-2-clause-others g c = λ as_many k below other.
     let enlarged = c.self-2.inside.broad_phase in
     let long = update-requires-2-clause-bodies g c in
     let now_are : bounds ≡ new = c.bounds.ensures.value ∙ ap (λ (p : PlacedBodies). p.bounds) c.in_ok-placed.ensures.placed in
-    let stood = subst (λ m. HaveStayed c.args.moved.now (bodies_of m) fixtures bodies) (sym c.self-2.view_is) c.requires.others in
+    let stood = subst (λ m. HaveStayed c.args.dirty.now (bodies_of m) fixtures bodies) (sym c.self-2.view_is) c.requires.others in
     let enlarged_long = c.self-2.invariant.0.within.as_many in
     let old_long = c.shapes-before.ensures.bounds in
     let same : length old.shapes ≡ length bodies = omega (arith, as_many, long, enlarged_long, old_long) in
@@ -165,7 +165,7 @@ update_slots-requires-clause-others g c =
     (λ p h. let few = c.candidates.ensures.few in (h.0, omega (arith, h.1, few))) candidates c.candidates.ensures.bodies in
     let flags_are : c.in_ok-placed.unmoved.items ≡ unmoved_flags old.shapes placed.shapes =
     c.in_ok-placed.ensures.unmoved ∙ ap (unmoved_flags old.shapes) (sym shapes_are) in
-    let stood = subst (λ m. HaveStayed c.args.moved.now (bodies_of m) fixtures bodies) (sym c.self-2.view_is) c.requires.others in
+    let stood = subst (λ m. HaveStayed c.args.dirty.now (bodies_of m) fixtures bodies) (sym c.self-2.view_is) c.requires.others in
     let Stayed : Slot → Type 0 = IsFreshUnlessLive placed.bounds c.in_ok-placed.unmoved.items c.in_ok-live.live.watched.items in
     subst (All Stayed) (sym slots_were)
     (All-map Stayed (carried_slot kept) candidates (λ k e below.
@@ -173,7 +173,7 @@ update_slots-requires-clause-others g c =
     let enlarged_long = within.as_many in
     let here : IsPairOf (length c.update-2.new.self) p = c.candidates.ensures.bodies k e below in
     stayed c.self-2.inside.broad_phase old.bounds old.shapes kept c.self-2.invariant.0 p (in_range k e below) placed.bounds placed.shapes c.in_ok-placed.unmoved.items
-    c.in_ok-live.live.watched.items (length c.shapes-before.result.now) (length bodies) c.args.moved.now (omega (arith, here.1, enlarged_long, long)) flags_are
+    c.in_ok-live.live.watched.items (length c.shapes-before.result.now) (length bodies) c.args.dirty.now (omega (arith, here.1, enlarged_long, long)) flags_are
     (ap length c.shapes-before.ensures.value) c.shapes-before.ensures.bounds
     c.in_ok-live.ensures.others
     (λ same n small other.
@@ -286,8 +286,8 @@ returns-clause-computed g c =
     in_range flags_are
     ∙ (λ i. computed_count (c.self-2.view_is i) (shapes_are i) (ps_are i))
 
-pub returns-clause-key_edits : goal.returns-clause-key_edits
-returns-clause-key_edits g c =
+pub returns-clause-key_splices : goal.returns-clause-key_splices
+returns-clause-key_splices g c =
     let fixtures = c.args.scene.now.fixtures in
     let bodies = c.args.bodies.now in
     let placed = c.in_ok-placed.placed in
@@ -311,13 +311,13 @@ returns-clause-key_edits g c =
     let after = ap (map key_of) (kept_points c.update-2.new.self placed.bounds placed.shapes now are)
     ∙ sym (ap (λ ss. map key_of (flat_map (points_of_pair placed.shapes) (overlapping ss))) items_are)
     ∙ sym (ap (λ m. map key_of (kept_touches m)) c.found-2.ensures.manifolds) in
-    let Between = λ (e : KeyEdits). AreEditsBetween e (map key_of (kept_touches c.args.self)) (map key_of (kept_touches c.found-2.result.collisions.manifolds)) in
-    subst (λ o. IfSome o Between) (sym c.found-2.ensures.key_edits)
+    let Between = λ (e : KeySplices). AreSplicesBetween e (map key_of (kept_touches c.args.self)) (map key_of (kept_touches c.found-2.result.collisions.manifolds)) in
+    subst (λ o. IfSome o Between) (sym c.found-2.ensures.key_splices)
     (elim c.if-has_all.branch [
       | then-has_all w ↦
           let had = ap (map key_of) (ap (flat_map slot_touches) c.deref_mut.ensures.value ∙ c.in_ok-carried.ensures.all w.if-has_all.true) ∙ before in
-          subst (λ o. IfSome o Between) (sym w.key_edits2-is)
-          (subst (λ ks. AreEditsBetween c.in_ok-refreshed.refreshed.key_edits ks (map key_of (kept_touches c.found-2.result.collisions.manifolds))) had
-          (subst (AreEditsBetween c.in_ok-refreshed.refreshed.key_edits (map key_of (flat_map slot_touches c.deref_mut.result.now))) after c.in_ok-refreshed.ensures.key_edits))
-      | else-has_all w ↦ subst (λ o. IfSome o Between) (sym w.key_edits2-is) tt
+          subst (λ o. IfSome o Between) (sym w.key_splices2-is)
+          (subst (λ ks. AreSplicesBetween c.in_ok-refreshed.refreshed.key_splices ks (map key_of (kept_touches c.found-2.result.collisions.manifolds))) had
+          (subst (AreSplicesBetween c.in_ok-refreshed.refreshed.key_splices (map key_of (flat_map slot_touches c.deref_mut.result.now))) after c.in_ok-refreshed.ensures.key_splices))
+      | else-has_all w ↦ subst (λ o. IfSome o Between) (sym w.key_splices2-is) tt
     ])

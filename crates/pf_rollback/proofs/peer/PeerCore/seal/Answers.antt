@@ -57,6 +57,6 @@ invariant_of-self-2 c =
     let later : c.self.inside.snapshots.horizon ≤ c.args.tick = omega (arith, c.horizon-horizon.ensures.value, c.if-tick-horizon.false) in (
       core_sealed _ _ _ _ _ _ _ c.args.tick _ c.self.invariant.0 later c.if-tick-self.false c.in_ok-world.ensures.value c.drop_before.ensures
           c.seal.ensures.base c.seal.ensures.worlds c.seal.ensures.settled,
-      unknown_follows c.self.inside.scene (settled_world c.seal.new.self) c.forget_moved.new.self
-          (ap (λ (w : Work). w.is_known) c.forget_moved.ensures),
+      unknown_follows c.self.inside.scene (settled_world c.seal.new.self) c.forget_dirty.new.self
+          (ap (λ (w : Work). w.is_known) c.forget_dirty.ensures),
     )

@@ -1,5 +1,0 @@
-use Rattle.pf_batches.proofs.SideBySide.{AreStored}
-use Rattle.pf_batches.proofs.islands.store_numbers.Given as goal
-
-abbrev pub invariant-loop-island : goal.invariant-loop-island
-invariant-loop-island l = AreStored l.fn.numbers l.initial.islands l.bodies l.rows l.island-index l.islands
