@@ -3,29 +3,9 @@
 //! A [`Scene`] has circles and boxes. Each player's machine has a [`PeerCore`] of it, the *peer*.
 //! The peer goes on tick by tick, issues the commands of its player, and hands each as a frame of
 //! [`FRAME_LEN`] bytes to the network of the game. It takes the frames of the others whenever they
-//! come, settles, and lends the latest world, whose bodies the game draws:
-//!
-//! ```text
-//! let scene = Scene::read(alloc, SCENE)?;
-//! let mut ours = PeerCore::new(alloc, scene.try_clone()?, 0, RING)?;
-//! let mut theirs = PeerCore::new(alloc, scene, 1, RING)?;
-//!
-//! let frame = ours.issue(Payload::Push { body: 0, x: push, y: Fx::ZERO })?;
-//! ours.advance(20)?;
-//! ours.settle_alone(alloc)?;
-//! draw(ours.settled_world());
-//!
-//! theirs.advance(20)?;
-//! theirs.settle_alone(alloc)?;
-//! draw(theirs.settled_world()); // another world: the frame has not come yet
-//!
-//! theirs.take(&frame)?; // it comes 20 ticks late
-//! theirs.settle_alone(alloc)?; // the peer simulates again
-//! draw(theirs.settled_world()); // the same world as ours, bit for bit
-//! ```
-//!
-//! The crate `two_players` is this game. Numbers are fixed-point: an [`Fx`] is a whole number of
-//! units of 2^-24. A tick is 1/64 s.
+//! come, settles, and lends the latest world, whose bodies the game draws. The crate `two_players` is
+//! a whole game. Numbers are fixed-point: an [`Fx`] is a whole number of units of 2^-24. A tick is
+//! 1/64 s.
 //!
 //! - **Scenes**: [`Scene::read`] from a text, or [`Scene::new`] and [`Scene::push`] by calls.
 //! - **Commands**: a [`Payload`] is what a player does to a body. [`PeerCore::issue`] gives it a
