@@ -1,18 +1,22 @@
 -- A peer that takes a frame.
-use Rattle.std.proofs.Common.{◌≡◌, zero, suc, arith, Bool, true, false, if◌then◌else◌, nat_lt, ◌∷◌, [], ◌++◌, List, Option, None, Some, Result, Ok, Err, ap, refl, subst, sym, ◌∙◌}
+use Rattle.std.proofs.Common.{◌≡◌, zero, suc, arith, Bool, true, false, if◌then◌else◌, nat_lt, ◌∷◌, [], ◌++◌, ℕ, List, length, Option, None, Some, Result, Ok, Err, ap, refl, subst, sym, ◌∙◌}
 use Rattle.std.proofs.lemmas.Bool.{true≢false}
 use Rattle.std.specs.FinMap.{get}
 use Rattle.std.specs.Prelude.{All, IsOk}
 use Rattle.pf_commands.specs.Check.{check}
+use Rattle.pf_commands.specs.Frame.{IsBytes, decode}
+use Rattle.pf_commands.specs.declared.frame.TheConstants.{FRAME_LEN}
 use Rattle.pf_commands.specs.Merge.{IsCommand, put_all}
 use Rattle.pf_commands.specs.News.{put_outcome}
 use Rattle.pf_commands.specs.declared.checking.CheckFault.{CheckFault}
+use Rattle.pf_commands.specs.declared.fault.FrameFault.{FrameFault}
 use Rattle.pf_commands.specs.declared.outcome.Put.{Put}
 use Rattle.pf_commands.specs.declared.payload.Command.{Command}
+use Rattle.pf_commands.proofs.Frames.{decoded_encodes}
 use Rattle.pf_rollback.specs.Calls.{Refines}
 use Rattle.pf_rollback.specs.declared.error.PeerError.{PeerError}
 use Rattle.pf_rollback.specs.declared.error.PeerError.TheVariants.{OutOfMemory, Refused}
-use Rattle.pf_rollback.specs.Peer.{Peer, if_allowed as answer_if_allowed, put, with_command}
+use Rattle.pf_rollback.specs.Peer.{Peer, if_allowed as answer_if_allowed, put, take, with_command}
 use Rattle.pf_rollback.specs.declared.error.Refusal.{Refusal}
 use Rattle.pf_rollback.specs.declared.error.Refusal.TheVariants.{TooOld}
 use Rattle.pf_scripts.specs.Frames.{Setting, commands_of_decoded, allowed_commands, check_refusal, refusal_of_decoded}
@@ -52,7 +56,7 @@ module _ (s : Setting) (p : Peer) (c : Command) (here : p.horizon ≡ s.horizon)
       (each checked (nat_lt c.name.tick s.horizon)))
 
   -- what is put was not refused, and the peer holds it
-  pub taken : (outcome : Put) (q : Peer) → put s.scene p c ≡ Ok (outcome, q)
+  taken : (outcome : Put) (q : Peer) → put s.scene p c ≡ Ok (outcome, q)
       → (refusal_of_decoded s (Ok c) ≡ None) × (q ≡ record p { commands = put_all p.commands (commands_of_decoded s (Ok c) ++ []) })
   taken outcome q =
       put_is (λ r refusal cs. r ≡ Ok (outcome, q) → (refusal ≡ None) × (q ≡ record p { commands = put_all p.commands (cs ++ []) })) by
@@ -75,7 +79,7 @@ module _ (s : Setting) (p : Peer) (c : Command) (here : p.horizon ≡ s.horizon)
       by (Err fault) early same = (cc, refl)
 
   -- what is refused changes nothing
-  pub refused : (refusal : Refusal) (q : Peer) (outcome : Result Put PeerError) → outcome ≡ Err (Refused refusal) → Refines outcome p q (put s.scene p c)
+  refused : (refusal : Refusal) (q : Peer) (outcome : Result Put PeerError) → outcome ≡ Err (Refused refusal) → Refines outcome p q (put s.scene p c)
       → (refusal_of_decoded s (Ok c) ≡ Some refusal) × (q ≡ record p { commands = put_all p.commands (commands_of_decoded s (Ok c) ++ []) })
   refused refusal q outcome is refines =
       let both : (put s.scene p c ≡ Err refusal) × (q ≡ p) = subst (λ (r : Result Put PeerError). Refines r p q (put s.scene p c)) is refines in
@@ -83,7 +87,7 @@ module _ (s : Setting) (p : Peer) (c : Command) (here : p.horizon ≡ s.horizon)
       (nothing.0, both.1 ∙ ap (λ cs. record p { commands = put_all p.commands (cs ++ []) }) (sym nothing.1))
 
   -- what found no memory was not refused
-  pub not_refused : (q : Peer) (outcome : Result Put PeerError) → outcome ≡ Err OutOfMemory → Refines outcome p q (put s.scene p c)
+  not_refused : (q : Peer) (outcome : Result Put PeerError) → outcome ≡ Err OutOfMemory → Refines outcome p q (put s.scene p c)
       → refusal_of_decoded s (Ok c) ≡ None
   not_refused q outcome is refines =
       let both : IsOk (put s.scene p c) × (q ≡ p) = subst (λ (r : Result Put PeerError). Refines r p q (put s.scene p c)) is refines in
@@ -94,21 +98,61 @@ module _ (s : Setting) (p : Peer) (c : Command) (here : p.horizon ≡ s.horizon)
       by (Ok done) true ok = absurd (true≢false (sym ok))
       by (Err fault) early ok = absurd (true≢false (sym ok))
 
--- the commands of what was decoded are in the ranges of their types
-pub decoded_ranges : (s : Setting) (c : Command) → IsCommand c → All IsCommand (commands_of_decoded s (Ok c) ++ [])
-decoded_ranges s c fits = by (check s.scene c.name c.payload)
+-- ---- a frame, which encodes a command, or none
+
+module _ (s : Setting) (p : Peer) (here : p.horizon ≡ s.horizon) where
+  abbrev with_decoded : Result Command FrameFault → Peer
+  with_decoded d = record p { commands = put_all p.commands (commands_of_decoded s d ++ []) }
+
+  pub frame_taken : (d : Result Command FrameFault) (outcome : Put) (q : Peer) → take s.scene p d ≡ Ok (outcome, q)
+      → (refusal_of_decoded s d ≡ None) × (q ≡ with_decoded d)
+  frame_taken (Ok c) outcome q same = taken s p c here outcome q same
+  frame_taken (Err fault) outcome q same = absurd cc
+
+  pub frame_refused : (d : Result Command FrameFault) (refusal : Refusal) (q : Peer) (outcome : Result Put PeerError) → outcome ≡ Err (Refused refusal)
+      → Refines outcome p q (take s.scene p d) → (refusal_of_decoded s d ≡ Some refusal) × (q ≡ with_decoded d)
+  frame_refused (Ok c) refusal q outcome is refines = refused s p c here refusal q outcome is refines
+  frame_refused (Err fault) refusal q outcome is refines =
+      let both : (take s.scene p (Err fault) ≡ Err refusal) × (q ≡ p) = subst (λ (r : Result Put PeerError). Refines r p q (take s.scene p (Err fault))) is refines in
+      let why = both.0 in (cc, both.1)
+
+  pub frame_not_refused : (d : Result Command FrameFault) (q : Peer) (outcome : Result Put PeerError) → outcome ≡ Err OutOfMemory
+      → Refines outcome p q (take s.scene p d) → refusal_of_decoded s d ≡ None
+  frame_not_refused (Ok c) q outcome is refines = not_refused s p c here q outcome is refines
+  frame_not_refused (Err fault) q outcome is refines =
+      let both : IsOk (take s.scene p (Err fault)) × (q ≡ p) = subst (λ (r : Result Put PeerError). Refines r p q (take s.scene p (Err fault))) is refines in
+      absurd (true≢false (sym both.0))
+
+  pub frame_long : (frame : List ℕ) → IsBytes frame → (outcome : Put) (q : Peer) → take s.scene p (decode frame) ≡ Ok (outcome, q) → length frame ≡ FRAME_LEN
+  frame_long frame bytes outcome q = of (decode frame) refl
+    where
+      of : (decoded : Result Command FrameFault) → decode frame ≡ decoded → take s.scene p decoded ≡ Ok (outcome, q) → length frame ≡ FRAME_LEN
+      of (Ok c) is same = (decoded_encodes frame c bytes is).long
+      of (Err fault) is same = absurd cc
+
+-- the command of a frame is in the ranges of its types
+frame_fits : (frame : List ℕ) (c : Command) → IsBytes frame → decode frame ≡ Ok c → IsCommand c
+frame_fits frame c bytes is =
+    let encodes = decoded_encodes frame c bytes is in record { name = encodes.framed.name; payload = encodes.framed.payload }
+
+pub frame_ranges : (s : Setting) (frame : List ℕ) → IsBytes frame → All IsCommand (commands_of_decoded s (decode frame) ++ [])
+frame_ranges s frame bytes = of (decode frame) refl
   where
     none : All IsCommand []
     none i d low = absurd (omega (arith, low))
 
-    one : All IsCommand (c ∷ [])
-    one zero d low = fits
-    one (suc i) d low = absurd (omega (arith, low))
+    one : (c : Command) → IsCommand c → All IsCommand (c ∷ [])
+    one c fits zero d low = fits
+    one c fits (suc i) d low = absurd (omega (arith, low))
 
-    if_late : (early : Bool) → All IsCommand ((if early then [] else c ∷ []) ++ [])
-    if_late true = none
-    if_late false = one
+    if_late : (c : Command) → IsCommand c → (early : Bool) → All IsCommand ((if early then [] else c ∷ []) ++ [])
+    if_late c fits true = none
+    if_late c fits false = one c fits
 
-    by : (checked : Result (Unit {0}) CheckFault) → All IsCommand (allowed_commands checked s.horizon c ++ [])
-    by (Ok done) = if_late (nat_lt c.name.tick s.horizon)
-    by (Err fault) = none
+    by : (c : Command) → IsCommand c → (checked : Result (Unit {0}) CheckFault) → All IsCommand (allowed_commands checked s.horizon c ++ [])
+    by c fits (Ok done) = if_late c fits (nat_lt c.name.tick s.horizon)
+    by c fits (Err fault) = none
+
+    of : (decoded : Result Command FrameFault) → decode frame ≡ decoded → All IsCommand (commands_of_decoded s decoded ++ [])
+    of (Ok c) is = by c (frame_fits frame c bytes is) (check s.scene c.name c.payload)
+    of (Err fault) is = none

@@ -7,7 +7,6 @@ ghost use Rattle.pf_commands.specs.Merge.{IsCommand};
 ghost use Rattle.pf_rollback.specs.Calls.{IsHeld};
 ghost use Rattle.pf_scripts.specs.Frames.{commands_in, core_setting, refusal_of, with_frames};
 
-use pf_commands::decode;
 use pf_rollback::{PeerCore, PeerError, Refusal};
 use std::alloc::AllocError;
 
@@ -26,11 +25,7 @@ pub fn take(core: &mut PeerCore, frame: &[u8]) -> Result<Option<Refusal>, AllocE
     ensures held { IsHeld core.old.peer.commands (decode frame.now) → IsOk result }
     ensures err { OnErr result (core.new ≡ core.old) }
 {
-    let command = match decode(frame) {
-        Ok(command) => command,
-        Err(fault) => return Ok(Some(Refusal::Frame(fault))),
-    };
-    match core.put(&command) {
+    match core.take(frame) {
         Ok(_) => Ok(None),
         Err(PeerError::Refused(refusal)) => Ok(Some(refusal)),
         Err(PeerError::OutOfMemory) => Err(AllocError),
