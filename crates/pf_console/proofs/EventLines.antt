@@ -23,7 +23,8 @@ use Rattle.pf_commands.specs.Frame.{encoding}
 use Rattle.pf_commands.proofs.Encoding.{encoding_encodes}
 use Rattle.pf_events.specs.declared.event.Event.{Event}
 use Rattle.pf_events.specs.declared.event.Event.TheVariants.{Issue, Take, Merge, Advance, Settle, Show, Seal}
-use Rattle.pf_console.specs.Laws.{IsLineOf, AreLinesOf}
+use Rattle.pf_console.specs.Grammar.{IsLineOf}
+use Rattle.pf_console.specs.Laws.{AreLinesOf}
 use Rattle.pf_console.specs.EventEncoding.{payload_fields, event_fields, event_line, IsEncodable}
 use Rattle.pf_console.proofs.EventFields.{read_event}
 

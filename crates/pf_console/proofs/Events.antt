@@ -8,7 +8,8 @@ use Rattle.pf_console.specs.declared.phase.Phase.TheVariants.{Playing}
 use Rattle.pf_console.specs.Phase.{after_line}
 use Rattle.pf_console.specs.Run.{text_rules}
 use Rattle.pf_console.specs.Print.{reply_text}
-use Rattle.pf_console.specs.Laws.{IsLineOf, AreLinesOf, session_output}
+use Rattle.pf_console.specs.Grammar.{IsLineOf}
+use Rattle.pf_console.specs.Laws.{AreLinesOf, session_output}
 
 -- the transition of a line that encodes an event
 transition_is : (s : Session) (line : List ℕ) (event : Event) → IsLineOf (length s.peers) line event →

@@ -12,6 +12,7 @@ pub mod ScriptBlocks
 pub mod SessionEnds
 pub mod ScriptTurns
 pub mod Quiet
+pub mod Settling
 pub mod Endings
 pub mod Reading
 pub mod Playing

@@ -31,7 +31,7 @@ output_stands t lines text state bytes are lead =
     ∙ ap (λ (o : Output (Phase Session) SceneFault). output_then o follow) lead in
     ((follow (length lines + 1) state).text, sym (ap (λ (o : Output (Phase Session) SceneFault). o.text) all))
 
--- where a run stopped since it was out of memory, or because its crew failed
+-- where a run stopped since it was out of memory
 stopped_prefix : (t : Transfer) → StopsForMemory text_rules first_phase t → WritesPrefix t (text_of t.input).written
 unfolding text_of
 stopped_prefix t stops = by stops.cause
@@ -64,7 +64,7 @@ pub runs_write_prefix : (t : Transfer) (result : Result (Unit {0}) ProgramError)
 runs_write_prefix t (Ok done) h = ((text_of t.input).written, [], append-nil _, h.1)
 runs_write_prefix t (Err (Line number fault)) h = ((text_of t.input).written, [], append-nil _, h.1)
 runs_write_prefix t (Err Memory) h = stopped_prefix t h
-runs_write_prefix t (Err (Crew error)) h = stopped_prefix t h
+runs_write_prefix t (Err (Crew error)) h = stopped_prefix t h.stops
 runs_write_prefix t (Err Read) h = read_prefix t h
 runs_write_prefix t (Err Write) h = write_prefix t h
 runs_write_prefix t (Err (Words text)) h = elim h [ ]

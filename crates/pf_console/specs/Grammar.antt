@@ -1,12 +1,14 @@
 -- The lines of events: the event that each encodes. The word and the count of fields are checked
 -- first, then the fields from the left.
-use Rattle.std.specs.Prelude.{ℕ, ℤ, pos, ◌-ℤ◌, neg_ℤ, List, [], ◌∷◌, Option, Some, None, Result, Ok, Err, codes, if◌then◌else◌}
+use Rattle.std.specs.Prelude.{◌≡◌, ℕ, true, false, ℤ, pos, ◌-ℤ◌, neg_ℤ, List, [], ◌∷◌, Option, Some, None, Result, Ok, Err, codes, if◌then◌else◌}
 use Rattle.std.specs.Int.RustNames.{unsigned_abs}
 use Rattle.std.specs.Str.{bytes_eq}
 use Rattle.pf_num.specs.Fx.{max_raw}
 use Rattle.pf_text.specs.declared.fault.LineFault.{LineFault}
 use Rattle.pf_text.specs.declared.fault.LineFault.TheVariants.{BadLine}
+use Rattle.pf_text.specs.Driver.{is_plain, is_skipped}
 use Rattle.pf_text.specs.Fault.{◌>>=◌}
+use Rattle.pf_text.specs.Fields.{fields_of}
 use Rattle.pf_text.specs.Numbers.{whole_of, integer}
 use Rattle.pf_rot.specs.Vector.{V2}
 use Rattle.pf_shapes.specs.declared.scene.TheConstants.{MAX_POSITION}
@@ -186,3 +188,11 @@ event_by_word peers None args = Err BadLine
 unfoldable pub event_of : ℕ → List (List ℕ) → Result Event LineFault
 event_of peers [] = Err BadLine
 event_of peers (word ∷ args) = event_by_word peers (event_word word) args
+
+-- a line encodes an event on one of so many peers
+pub record IsLineOf (peers : ℕ) (line : List ℕ) (event : Event) : Type 0 where
+  pub plain : is_plain line ≡ true
+  pub not_skipped : is_skipped line ≡ false
+  pub fields : List (List ℕ)
+  pub fields_are : fields_of line ≡ Ok fields
+  pub event_is : event_of peers fields ≡ Ok event

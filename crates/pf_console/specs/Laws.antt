@@ -1,8 +1,7 @@
 -- What laws of texts speak of.
-use Rattle.std.specs.Prelude.{◌≡◌, ℕ, true, false, List, [], ◌∷◌, Result, Ok, Err}
+use Rattle.std.specs.Prelude.{ℕ, List, [], ◌∷◌, Result, Ok, Err}
 use Rattle.std.specs.List.{flat_map}
-use Rattle.pf_text.specs.Fields.{fields_of}
-use Rattle.pf_text.specs.Driver.{Output, is_plain, is_skipped}
+use Rattle.pf_text.specs.Driver.{Output}
 use Rattle.pf_shapes.specs.declared.fault.SceneFault.{SceneFault}
 use Rattle.pf_events.specs.declared.event.Event.{Event}
 use Rattle.pf_events.specs.Session.{Session, replies_to, session_after_all}
@@ -11,16 +10,8 @@ use Rattle.pf_console.specs.declared.error.ProgramError.TheVariants.{Line}
 use Rattle.pf_console.specs.declared.error.ProgramError.TheVariants as errors
 use Rattle.pf_console.specs.declared.phase.Phase.{Phase}
 use Rattle.pf_console.specs.declared.phase.Phase.TheVariants.{Playing}
-use Rattle.pf_console.specs.Grammar.{event_of}
+use Rattle.pf_console.specs.Grammar.{IsLineOf}
 use Rattle.pf_console.specs.Print.{reply_text}
-
--- a line encodes an event on one of so many peers
-pub record IsLineOf (peers : ℕ) (line : List ℕ) (event : Event) : Type 0 where
-  pub plain : is_plain line ≡ true
-  pub not_skipped : is_skipped line ≡ false
-  pub fields : List (List ℕ)
-  pub fields_are : fields_of line ≡ Ok fields
-  pub event_is : event_of peers fields ≡ Ok event
 
 -- each line encodes its event
 abbrev pub AreLinesOf : ℕ → List (List ℕ) → List Event → Type 0

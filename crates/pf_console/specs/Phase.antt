@@ -1,6 +1,6 @@
 -- What the lines of a text mean, one after the other: first a scene, then its peers, then what is
 -- played.
-use Rattle.std.specs.Prelude.{ℕ, ℤ, pos, Bool, true, List, [], ◌∷◌, None, Result, Ok, Err, codes, if◌then◌else◌}
+use Rattle.std.specs.Prelude.{ℕ, ℤ, pos, Bool, true, false, List, [], ◌∷◌, None, Result, Ok, Err, codes, if◌then◌else◌}
 use Rattle.std.specs.Int.RustNames.{unsigned_abs}
 use Rattle.std.specs.Str.{bytes_eq}
 use Rattle.pf_text.specs.declared.fault.LineFault.{LineFault}
@@ -64,12 +64,19 @@ takes_memory (Reading reader) fields = is_body_line fields
 takes_memory (Seating scene) fields = true
 takes_memory (Playing begun) fields = true
 
+-- only what is played may change what its lines are lent
+unfoldable pub may_change_lent : {B : Type 0} → PlayRules B → Phase B → List (List ℕ) → Bool
+may_change_lent play (Reading reader) fields = false
+may_change_lent play (Seating scene) fields = false
+may_change_lent play (Playing begun) fields = play.changes_lent begun fields
+
 -- a text by its lines
 abbrev pub phase_rules : {B : Type 0} → PlayRules B → Rules (Phase B) SceneFault
 phase_rules play = record {
   transition = after_line play;
   line_error = scene_fault_of;
   allocates = takes_memory;
+  changes_lent = may_change_lent play;
 }
 
 -- a text begins with a scene

@@ -1,5 +1,5 @@
 -- The scripts of a session's text, and what the session of them shows.
-use Rattle.std.specs.Prelude.{ℕ, ◌+◌, List, [], ◌∷◌, ◌++◌, Option, Some, None, Result, Ok, Err, length, nat_le, replicate, slice_index_or, slice_set, sum_by, if◌then◌else◌}
+use Rattle.std.specs.Prelude.{ℕ, ◌+◌, false, List, [], ◌∷◌, ◌++◌, Option, Some, None, Result, Ok, Err, length, nat_le, replicate, slice_index_or, slice_set, sum_by, if◌then◌else◌}
 use Rattle.std.specs.FinMap.{empty}
 use Rattle.std.specs.List.{flat_map}
 use Rattle.pf_text.specs.declared.fault.LineFault.{LineFault}
@@ -48,11 +48,12 @@ abbrev pub take_error_of_line : LineError → TakeError SceneFault
 take_error_of_line errors.Memory = take_errors.Memory
 take_error_of_line (errors.Fault fault) = take_errors.Fault (scene_fault_of fault)
 
--- peers without turns, and then lines of turns
+-- peers without turns, and then lines of turns, which change nothing that they are lent
 abbrev pub session_play : PlayRules Scripts
 session_play = record {
   begin = new_scripts;
   after = λ s fields. after_turn s (turn_of (length s.scripts) fields);
+  changes_lent = λ s fields. false;
 }
 
 -- ---- scripts that are refused

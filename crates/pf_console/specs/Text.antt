@@ -1,15 +1,18 @@
 -- What the program does with a text: what it writes, and the invalid line, if any.
 use Rattle.std.specs.Prelude.{◌≡◌, ◌⊎◌, ℕ, ◌+◌, List, [], ◌++◌, length, Option, Some, None, Result, Ok, Err, IsOk}
-use Rattle.pf_text.specs.Driver.{Rules, TakesLine, StopsForMemory, StopsForRead, StopsForWrite, text_output}
+use Rattle.pf_text.specs.Driver.{Rules, TakesLine, StopsAtValidLine, StopsForMemory, StopsForRead, StopsForWrite, text_output}
 use Rattle.pf_text.specs.Streams.{Transfer}
 use Rattle.pf_text.specs.declared.driver.DriveError.{DriveError}
 use Rattle.pf_text.specs.declared.driver.DriveError.TheVariants as drives
+use Rattle.pf_events.specs.declared.event.Event.TheVariants.{Settle}
+use Rattle.pf_events.specs.Session as peers
 use Rattle.pf_shapes.specs.declared.fault.SceneFault.{SceneFault}
 use Rattle.pf_shapes.specs.declared.fault.SceneFault.TheVariants.{BadLine}
 use Rattle.pf_console.specs.declared.error.ProgramError.{ProgramError}
 use Rattle.pf_console.specs.declared.error.ProgramError.TheVariants.{Words, Line, Frame, Session, Memory, Crew, Read, Write}
 use Rattle.pf_console.specs.declared.phase.Phase.{Phase}
 use Rattle.pf_console.specs.declared.phase.Phase.TheVariants.{Reading, Seating, Playing}
+use Rattle.pf_console.specs.Grammar.{IsLineOf}
 use Rattle.pf_console.specs.Phase.{first_phase}
 use Rattle.pf_console.specs.Run.{text_rules}
 
@@ -59,9 +62,19 @@ abbrev pub WritesPrefix : Transfer → List ℕ → Type 0
 WritesPrefix t text =
     (part : List ℕ) × (rest : List ℕ) × (part ++ rest ≡ text) × (t.after ≡ Some (t.before ++ part))
 
--- How a run ended, and what it read and wrote. It runs out of memory, or its crew fails, only at a
--- valid line; there, and where the reader failed, the lines before are valid and their output was
--- written; where the writer failed, a part of the next reply stands behind that.
+-- A run stopped at a line `settle P` of a session to which the lines before it lead. Their output
+-- was written, and nothing behind it.
+pub record StopsAtSettle (t : Transfer) : Type 0 where
+  pub stops : StopsForMemory text_rules first_phase t
+  pub stop : StopsAtValidLine text_rules first_phase t stops.lines stops.state
+  pub session : peers.Session
+  pub state_is : stops.state ≡ Playing session
+  pub peer : ℕ
+  pub line_is : IsLineOf (length session.peers) stop.line (Settle peer)
+
+-- How a run ended, and what it read and wrote. It runs out of memory only at a valid line, and its
+-- crew fails only at a settle; there, and where the reader failed, the lines before are valid and
+-- their output was written; where the writer failed, a part of the next reply stands behind that.
 abbrev pub Runs : Transfer → Result (Unit {0}) ProgramError → Type 0
 Runs t (Ok done) =
     (t.left ≡ Some []) × (t.after ≡ Some (t.before ++ (text_of t.input).written))
@@ -70,7 +83,7 @@ Runs t (Err (Line number fault)) =
     StopsAt text_rules t number × (t.after ≡ Some (t.before ++ (text_of t.input).written))
     × ((text_of t.input).fault ≡ Some (number, fault))
 Runs t (Err Memory) = StopsForMemory text_rules first_phase t
-Runs t (Err (Crew error)) = StopsForMemory text_rules first_phase t
+Runs t (Err (Crew error)) = StopsAtSettle t
 Runs t (Err Read) = StopsForRead text_rules first_phase t
 Runs t (Err Write) = StopsForWrite text_rules first_phase t
 Runs t (Err (Words text)) = ⊥

@@ -17,7 +17,8 @@ ghost use Rattle.pf_console.specs.declared.error.ProgramError.TheVariants.{Sessi
 ghost use Rattle.pf_console.specs.declared.phase.Phase.TheVariants.{Playing};
 ghost use Rattle.pf_console.specs.Digits.{frame_of_digits};
 ghost use Rattle.pf_console.specs.EventEncoding.{event_line, IsEncodable};
-ghost use Rattle.pf_console.specs.Laws.{AreLinesOf, IsLineOf, NothingFailed, session_output};
+ghost use Rattle.pf_console.specs.Grammar.{IsLineOf};
+ghost use Rattle.pf_console.specs.Laws.{AreLinesOf, NothingFailed, session_output};
 ghost use Rattle.pf_console.specs.Run.{text_rules};
 ghost use Rattle.pf_console.specs.Blocks.{fault_of, result_block};
 ghost use Rattle.pf_console.specs.Scripts.{blocks_of, scripts_refusal};

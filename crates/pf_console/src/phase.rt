@@ -11,13 +11,14 @@ use std::alloc::{AllocError, Global};
 /// How many peers a text may have.
 pub const MAX_TEXT_PEERS: u8 = 8;
 
-/// What `peers N` begins: it takes the lines behind that. Each line is lent an `L`.
+/// What `peers N` begins: it takes the lines behind that. Each line is lent an `L`, which it may
+/// change only where it is out of memory.
 pub trait Play<L>: Drop {
     ghost use Rattle.std.specs.Prelude.{◌≡◌, ◌<◌, ◌≤◌, IfOk, map};
-    ghost use Rattle.pf_text.specs.Driver.{Produces};
+    ghost use Rattle.pf_text.specs.Driver.{KeepsLent, Produces};
     ghost use Rattle.pf_console.specs.PlayRules.{PlayRules};
 
-    // What is begun, and what the fields of a line do.
+    // What is begun, what the fields of a line do, and for which it may change what it is lent.
     ghost play: { PlayRules Self };
 
     /// What a scene with so many peers begins.
@@ -37,7 +38,9 @@ pub trait Play<L>: Drop {
     ) -> Result<(String, Self), TakeError<SceneFault>>
     where
         Self: Sized,
-        ensures { Produces result (play.after self (map (λ field. field.now) fields.now)) };
+        ensures reply { Produces result (play.after self (map (λ field. field.now) fields.now)) }
+        ensures kept { KeepsLent result
+            (play.changes_lent self (map (λ field. field.now) fields.now)) lent.old lent.new };
 }
 
 /// Which part of a text comes next.
@@ -113,7 +116,7 @@ impl<L, B: Play<L>> Machine<L> for Phase<B> {
         SceneFault::from(fault)
     }
 
-    #[tactic(auto, unfolding(crate::specs::Phase::after_line, crate::specs::Phase::takes_memory))]
+    #[tactic(auto, unfolding(crate::specs::Phase::after_line, crate::specs::Phase::takes_memory, crate::specs::Phase::may_change_lent))]
     fn take(
         self,
         alloc: Global,

@@ -1,9 +1,9 @@
 //! The session that the events of a run are played on.
 
 ghost use Rattle.std.specs.Prelude.{Ok, length};
-ghost use Rattle.pf_text.specs.Driver.{Produces};
+ghost use Rattle.pf_text.specs.Driver.{KeepsLent, Produces};
 ghost use Rattle.pf_events.specs.Session.{IsAmong};
-ghost use Rattle.pf_console.specs.Run.{after_event, run_play};
+ghost use Rattle.pf_console.specs.Run.{after_event, is_settle, run_play};
 
 use crate::grammar::event;
 use crate::phase::Play;
@@ -24,7 +24,8 @@ fn after_known_event<P: Collider, C: Crew>(
     event: Event,
 ) -> Result<(String, Session), TakeError<SceneFault>>
     requires { IsAmong (length session.peers) event }
-    ensures { Produces result (after_event session (Ok event)) }
+    ensures reply { Produces result (after_event session (Ok event)) }
+    ensures kept { KeepsLent result (is_settle (Ok event)) settler.old settler.new }
 {
     let mut session = session;
     let reply = settler.answer(alloc, &mut session, event)?;

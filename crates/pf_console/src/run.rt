@@ -21,7 +21,8 @@ use std::alloc::Global;
 /// thread. What is written never depends on them. [`pf_manifold::OneThread`], the caller's own
 /// thread, is both; it has no error of a crew.
 ///
-/// An error of the crew ends the text. Then what was written are the replies of the lines before.
+/// An error of the crew ends the text, at a line `settle P` alone. Then what was written are the
+/// replies of the lines before.
 #[tactic(auto, unfolding(crate::specs::Text::text_of))]
 pub fn run_text<P: Collider, R: Source, W: Sink, C: Crew>(
     collider: &P,
