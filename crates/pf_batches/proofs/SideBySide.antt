@@ -169,7 +169,7 @@ held_with_next islands k d lanes within held =
     subst (λ (b : Batch). AreHeldBy lanes b.rows) (sym (one_more islands k d within))
     (held_behind (length front.bodies) lanes front.rows (get_or islands k d).rows held)
 
--- ---- numbers stored island by island
+-- ---- unknowns stored island by island
 
 -- the unknowns behind some and then behind others
 behind_both : (a b c d : ℕ) (n : Unknowns) → unknowns_behind c d (unknowns_behind a b n) ≡ unknowns_behind (a + c) (b + d) n
@@ -177,7 +177,7 @@ behind_both a b c d n =
     ap₂ (λ velocities impulses. record { velocities = velocities; impulses = impulses })
     (drop-drop c a n.velocities) (drop-drop d b n.impulses)
 
--- an island with other numbers has as many bodies
+-- an island with other unknowns has as many bodies
 pub bodies_kept : (n : Unknowns) (i after : Island) → after ≡ island_with_first n i → length after.bodies ≡ length i.bodies
 bodies_kept n i after is = ap (λ (x : Island). length x.bodies) is ∙ bodies_as_many (first_unknowns i n) (batch_in i)
 
@@ -262,9 +262,9 @@ module _ (n : Unknowns) (islands : List Island) (bodies rows k : ℕ) (now : Lis
             ∙ ap₂ (λ front some. front ++ islands_with_unknowns then some) (sym (take_more_set now k after within)) (sym same);
       }
 
--- ---- a pass changes of a batch nothing but its numbers
+-- ---- a pass changes of a batch nothing but its unknowns
 
--- the second batch is the first one with other numbers
+-- the second batch is the first one with other unknowns
 record IsWithOwn (before after : Batch) : Type 0 where
   fit : AreUnknownsOf before (batch_unknowns after)
   same : batch_with_unknowns (batch_unknowns after) before ≡ after
@@ -345,7 +345,7 @@ module _ (step : Step) where
   own_rows bodies (r ∷ rows) =
       ap (λ rest. row_after step bodies r ∷ rest) (own_rows (bodies_after step bodies r) rows)
 
-  -- a pass changes nothing but numbers
+  -- a pass changes nothing but unknowns
   own_pass : (b : Batch) → IsWithOwn b (pass step b.bodies b.rows)
   own_pass b =
       let after = pass step b.bodies b.rows in

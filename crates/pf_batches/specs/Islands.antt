@@ -61,7 +61,7 @@ islands_with_unknowns n [] = []
 islands_with_unknowns n (i ∷ islands) =
     island_with_first n i ∷ islands_with_unknowns (other_unknowns i n) islands
 
--- what the solver holds of a batch before its rounds: its levels, its rows in lanes, its numbers,
+-- what the solver holds of a batch before its rounds: its levels, its rows in lanes, its unknowns,
 -- and the bundles of the levels
 pub record IsLoaded
     (b : Batch) (levels : List (List ℕ)) (lanes : List LaneRow) (n : Unknowns)

@@ -150,7 +150,7 @@ AreRowsAtPlaces rows (p ∷ places) [] = ⊥
 AreRowsAtPlaces rows (p ∷ places) (r ∷ found) =
     (slice_get rows p ≡ Some r) × AreRowsAtPlaces rows places found
 
--- what a step makes of each row at its place, all of them read from the same numbers
+-- what a step makes of each row at its place, all of them read from the same unknowns
 abbrev pub AreResults : Step → Unknowns → List ℕ → List Row → List ContactState → Type 0
 AreResults step n [] found states = states ≡ []
 AreResults step n (p ∷ places) [] states = states ≡ []
@@ -187,7 +187,7 @@ abbrev pub AreSeatsOf : List Row → List ℕ → List Seat → Type 0
 AreSeatsOf rows level seats =
     (found : List Row) × AreRowsAtPlaces rows level found × (seats ≡ seats_of level found)
 
--- the seats of a bundle are places of numbers and of rows, and its lanes hold these rows
+-- the seats of a bundle are places of unknowns and of rows, and its lanes hold these rows
 pub record IsBundleOn (rows : List LaneRow) (n : Unknowns) (bundle : Bundle) : Type 0 where
   pub seats : All (IsSeatIn n) bundle.seats
   pub places : All (λ seat. seat.place < length rows) bundle.seats

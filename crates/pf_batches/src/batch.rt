@@ -111,8 +111,8 @@ fn load_overlap(
     Ok(Some(early_levels))
 }
 
-/// The rounds of islands whose rows and numbers are loaded; `false`, and the islands as they were,
-/// where a number becomes too great.
+/// The rounds of islands whose rows and unknowns are loaded; `false`, and the islands as they were,
+/// where an unknown becomes too great.
 fn solve_loaded(
     rows: &[LaneRow],
     bundles: &[Bundle],
@@ -223,8 +223,8 @@ fn least_number(island: &Island) -> usize {
 }
 
 /// The place of the island whose workspace is used, of islands in the order of their bodies or in
-/// the opposite one: that of the least bodies. There is such an island in each tick, so that there
-/// is one workspace for each list of islands.
+/// the opposite one: that of the body of the least number. So there is one workspace for each list
+/// of islands.
 fn workspace_place(islands: &[Island]) -> usize
     requires { 0 < length islands.now }
     ensures { result < length islands.now }

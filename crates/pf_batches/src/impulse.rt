@@ -155,38 +155,38 @@ pub(crate) fn impulse_along(impulse: Lanes, direction: &ScaledVectors) -> Vector
 /// Twice each number: what the parts of an impulse along a direction do not exceed.
 #[inline(always)]
 #[tactic(auto, unfolding(pf_num::specs::Fx::sum, pf_num::specs::Fx::saturate))]
-pub(crate) fn twice(unknowns: Lanes) -> Lanes
-    requires { (k : Lane) → unsigned_abs (number_in k unknowns) ≤ NUMBER_LIMIT + 2 ^ 51 }
+pub(crate) fn twice(numbers: Lanes) -> Lanes
+    requires { (k : Lane) → unsigned_abs (number_in k numbers) ≤ NUMBER_LIMIT + 2 ^ 51 }
     ensures { (k : Lane) → unsigned_abs (number_in k result)
-        ≡ 2 * unsigned_abs (number_in k unknowns) }
+        ≡ 2 * unsigned_abs (number_in k numbers) }
 {
-    unknowns.plus(unknowns)
+    numbers.plus(numbers)
 }
 
 /// Factors times numbers.
 #[inline(always)]
 #[tactic(auto, using(pf_num::proofs::Operations::product_comm))]
-pub(crate) fn times(factors: Scaled, unknowns: Lanes) -> Lanes
+pub(crate) fn times(factors: Scaled, numbers: Lanes) -> Lanes
     requires { (k : Lane)
-        → unsigned_abs (number_in k unknowns) * unsigned_abs (number_in k factors) < PRODUCT_LIMIT }
+        → unsigned_abs (number_in k numbers) * unsigned_abs (number_in k factors) < PRODUCT_LIMIT }
     ensures value { (k : Lane) → number_in k result
-        ≡ product (number_in k factors) (number_in k unknowns) }
+        ≡ product (number_in k factors) (number_in k numbers) }
     ensures size { (k : Lane) → unsigned_abs (number_in k result) ≤ 2 ^ 29 }
 {
-    unknowns.product(factors)
+    numbers.product(factors)
 }
 
 /// Factors times numbers, for a sum or a difference.
 #[inline(always)]
 #[tactic(auto, using(pf_num::proofs::Operations::product_comm))]
-fn shifted_times(factors: Scaled, unknowns: Lanes) -> ShiftedLanes
+fn shifted_times(factors: Scaled, numbers: Lanes) -> ShiftedLanes
     requires { (k : Lane)
-        → unsigned_abs (number_in k unknowns) * unsigned_abs (number_in k factors) < PRODUCT_LIMIT }
+        → unsigned_abs (number_in k numbers) * unsigned_abs (number_in k factors) < PRODUCT_LIMIT }
     ensures value { (k : Lane) → number_in k result
-        ≡ product (number_in k factors) (number_in k unknowns) }
+        ≡ product (number_in k factors) (number_in k numbers) }
     ensures size { (k : Lane) → unsigned_abs (number_in k result) ≤ 2 ^ 29 }
 {
-    unknowns.shifted_product(factors)
+    numbers.shifted_product(factors)
 }
 
 /// How impulses at these arms turn bodies.

@@ -14,8 +14,9 @@ use crate::bundle_step::GROWTH;
 
 /// Velocities and accumulated impulses may be held in two lists of their own while rows are solved
 /// level by level. Where each row of a level is read from the lists as they were before the level,
-/// and all results are then stored, the batch with these unknowns is the batch after the level at
-/// once. After so many passes it is the batch after as many passes along the list of rows.
+/// and all results are then stored, the batch with these unknowns is the batch with the level
+/// solved at once. After so many passes it is the batch after as many passes along the list of
+/// rows.
 pub fn unknowns_are_solved_as_the_batch()
     ensures level { (step : Step) (b : Batch) (n : Unknowns) (level : List ℕ) (found : List Row)
         (states : List ContactState) → AreUnknownsOf b n → AreRowsAtPlaces b.rows level found

@@ -45,7 +45,7 @@ fn solve_bundles<L: LaneStep>(
 
 /// All rounds, after a warm start that left the unknowns at most `limit`: the early levels of the
 /// first round, then nine times the levels across two rounds, and the late levels of the last
-/// round. `false` where numbers become too great.
+/// round. `false` where unknowns become too great.
 fn rounds(
     early_bundles: &[Bundle],
     overlap_bundles: &[Bundle],

@@ -1,4 +1,4 @@
-//! The numbers of one row in doubles, and in fixed-point numbers.
+//! The unknowns of one row in doubles, and in fixed-point numbers.
 
 ghost use Rattle.std.specs.Prelude.{◌≡◌, ◌≤◌, IfSome};
 ghost use Rattle.pf_batches.specs.Contact.{IsSeatWithin, state_of};

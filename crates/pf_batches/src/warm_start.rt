@@ -18,10 +18,10 @@ use pf_lanes::Lanes;
 
 /// The magnitudes.
 #[inline(always)]
-fn magnitudes(unknowns: Lanes) -> Lanes
-    ensures { (k : Lane) → number_in k result ≡ pos (unsigned_abs (number_in k unknowns)) }
+fn magnitudes(numbers: Lanes) -> Lanes
+    ensures { (k : Lane) → number_in k result ≡ pos (unsigned_abs (number_in k numbers)) }
 {
-    unknowns.greatest(unknowns.negated())
+    numbers.greatest(numbers.negated())
 }
 
 /// The sums of two vectors.

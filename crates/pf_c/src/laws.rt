@@ -8,7 +8,7 @@ ghost use Rattle.pf_c.specs.Names.{code_name, code_text};
 ghost use Rattle.pf_c.specs.declared.codes.TheConstants.{PF_BAD_KEY, PF_BAD_NUMBER, PF_BAD_PLAYER, PF_BAD_RING, PF_CHECK, PF_CLOSED, PF_FRAME, PF_FULL, PF_OK, PF_OUT_OF_MEMORY, PF_REFUSED, PF_SCENE, PF_SMALL_BUFFER, PF_STILL_OPEN};
 ghost use Rattle.pf_c.specs.declared.scenes.TheConstants.{PF_NOBODY};
 
-/// The codes, and the owner that is nobody, have these numbers, which the header has too.
+/// The codes, and the owner that is nobody, have these numbers.
 pub fn codes_have_numbers()
     ensures ok { PF_OK ≡ 0 }
     ensures out_of_memory { PF_OUT_OF_MEMORY ≡ 1 }

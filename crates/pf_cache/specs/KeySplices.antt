@@ -13,8 +13,8 @@ pub record KeySplices : Type 0 where
 abbrev pub no_splices : KeySplices
 no_splices = record { splices = []; added = [] }
 
--- keys after these splices, which add `added`: `kept` keys stay, and in place of the next `dropped`
--- come the next `added` of those that are added
+-- keys after these splices: each keeps its `kept` keys, drops the next `dropped`, and puts in their
+-- place as many as it adds, the next ones of the list `added`
 unfoldable pub keys_after : List KeySplice → List Key → List Key → List Key
 keys_after [] added keys = keys
 keys_after (e ∷ splices) added keys =

@@ -20,12 +20,12 @@ pub(crate) struct Carried {
     pub has_all: bool,
 }
 
-/// Slots that a walk has passed by.
+/// Where a walk along slots has come to.
 #[derive(Clone, Copy)]
 struct Reached {
-    /// The place after them.
+    /// The place.
     end: usize,
-    /// Whether none of them has contact points.
+    /// Whether no slot that it has passed by has contact points.
     are_empty: bool,
 }
 
@@ -39,8 +39,8 @@ fn has_lower_rank(first: &Pair, second: &Pair) -> bool
     first.is_before(second)
 }
 
-/// Passes by the slots from `start` on whose pairs are before this one. Look-ups of this pair and
-/// of later ones find after them what they find from `start`.
+/// The first place from `start` on whose pair is not before this one. Look-ups of this pair and of
+/// later ones find from there on what they find from `start`.
 #[inline]
 fn advance_to(old: &[Slot], start: usize, pair: &Pair) -> Reached
     requires start { start ≤ length old.now }

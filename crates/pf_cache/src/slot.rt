@@ -183,8 +183,8 @@ impl Slot {
         count_of(&self.points)
     }
 
-    /// Whether the slot is not up to date. If its bounds overlap, it is not where they did not
-    /// before or a body moved; else it is not where there are contact points still.
+    /// Whether the slot has to be brought up to date: where its bounds overlap, if they did not
+    /// before or a body has moved; where they do not, if it still has contact points.
     #[inline]
     pub(crate) fn is_stale(&self, overlap: bool, unmoved: &[bool]) -> bool
         ensures { result ≡ is_stale_if overlap unmoved.now self.now }

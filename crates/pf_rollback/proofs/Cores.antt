@@ -332,9 +332,9 @@ pub err_both : {A E P Q R : Type 0} (r : Result A E) → (P → Q → R) → OnE
 err_both (Ok value) f a b = tt
 err_both (Err fault) f a b = f a b
 
--- ---- what a work knows of moved bodies
+-- ---- what a work knows of dirty bodies
 
--- where it is not known which bodies have moved
+-- where it is not known which bodies are dirty
 pub unknown_follows : (s : Scene) (world : World) (work : Work) → work.is_known ≡ false → KnowsWorld s world work
 unknown_follows s world work unknown known = absurd (true≢false (sym known ∙ unknown))
 

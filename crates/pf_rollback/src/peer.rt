@@ -23,7 +23,7 @@ pub const MAX_RING: usize = 64;
 /// commands, and the tick that it has reached); the ticks of its kept worlds; and the counts of
 /// work done. Each kept world is the simulation, from the world of the horizon on, of the commands
 /// that the peer holds. Until a tick is sealed the horizon is tick 0, and its world the start
-/// world. What `work` knows of moved bodies and of contacts is true of the settled world.
+/// world. What `work` knows of dirty bodies and of contacts is true of the settled world.
 #[derive(Drop)]
 pub struct PeerCore {
     scene: Scene,

@@ -221,7 +221,7 @@ impl Snapshots {
 
     /// Settles the tick after the settled one: steps its world in place, with the payloads of its
     /// commands, and keeps what that changed. What falls out of a full ring lends its memory to the
-    /// next step with `work`. What `work` knows of moved bodies is true of the settled world before
+    /// next step with `work`. What `work` knows of dirty bodies is true of the settled world before
     /// and after. An error leaves all as it was.
     pub(crate) fn settle<P: Collider, C: Crew>(
         &mut self,
@@ -275,7 +275,7 @@ impl Snapshots {
     }
 
     /// Drops each world after the least tick of news, if there are any, which is not before the
-    /// horizon. What `work` knows of moved bodies stays true of the settled world. Takes no memory.
+    /// horizon. What `work` knows of dirty bodies stays true of the settled world. Takes no memory.
     pub(crate) fn drop_after_news(&mut self, least: Option<u32>, work: &mut Work)
         requires { IfSome least (λ tick. self.old.horizon ≤ tick) }
         ensures base { (self.new.horizon ≡ self.old.horizon) × (self.new.base ≡ self.old.base) }

@@ -15,7 +15,7 @@ use Rattle.pf_step.specs.World.{World}
 -- what a step with the payloads of a tick does to a world: it makes the next one of it, returns
 -- what undoes that, counts the tick, and keeps its contact points; or it returns an error, and
 -- leaves the world as it was, with nothing counted and no points kept; and what the work then knows
--- of moved bodies and of the contacts is true of the world
+-- of dirty bodies and of the contacts is true of the world
 pub record IsStep {E : Type 0} (s : Scene) (w : World) (payloads : List Payload) (old new : Work)
     (after : World) (result : Result Changes E) : Type 0 where
   pub value : OnOk result (after ≡ step s w payloads)

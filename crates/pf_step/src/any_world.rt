@@ -18,7 +18,7 @@ use pf_shapes::Scene;
 use std::alloc::{AllocError, Global};
 use std::thread::Threads;
 
-/// [`step_next`] of any world: what `work` knows of moved bodies is forgotten first, so that all
+/// [`step_next`] of any world: what `work` knows of dirty bodies is forgotten first, so that all
 /// bodies, and the keys of all contacts, are compared.
 pub fn step_by<P: Collider, C: Crew>(
     collider: &P,

@@ -48,7 +48,7 @@ fn few_may_have_moved(dirty: usize, bodies: usize) -> bool {
 /// counted. Takes no memory of its own where there are no bodies.
 ///
 /// The world has to be the one that the last step with `work` left, unless `work` knows nothing of
-/// moved bodies. Only bodies that may have moved or have a command are compared with how they
+/// dirty bodies. Only bodies that may have moved or have a command are compared with how they
 /// stood. Where it is known how the keys of the points changed since the last ones, contacts whose
 /// keys stayed are not looked up. [`step_by`](crate::step_by) has no such condition.
 pub fn step_next<P: Collider, C: Crew>(

@@ -114,7 +114,7 @@ impl Work {
     }
 
     /// Takes the contact points of the last tick, so that the next tick can reuse them and their
-    /// memory. None are kept from then on, and nothing is known of moved bodies. Also returns
+    /// memory. None are kept from then on, and nothing is known of dirty bodies. Also returns
     /// whether it was known which may have moved, and that the contacts have the keys of the
     /// points. Takes no memory.
     pub(crate) fn take_manifolds(&mut self, alloc: Global) -> (Manifolds, bool)
