@@ -59,24 +59,32 @@ _LIMITS = {c_uint8: (0, 2**8 - 1), c_uint16: (0, 2**16 - 1), c_uint32: (0, 2**32
 _LIMITS |= {c_int64: (-(2**63), 2**63 - 1)}
 
 
-def _within(kind, value):
-    """A value that a parameter of this kind can hold: ctypes would cut a number off, and its error
-    of another type is no TypeError."""
+def _is_whole(value):
+    return isinstance(value, int) and not isinstance(value, bool)
+
+
+def _within(what, kind, value):
+    """The value of the argument of this name, which a parameter of this kind can hold: ctypes would
+    cut a number off, and its error of another type is no TypeError."""
     if kind in _LIMITS:
-        if not isinstance(value, int):
-            raise TypeError(f"a whole number is wanted, not {value!r}")
+        if not _is_whole(value):
+            raise TypeError(f"{what}: a whole number is wanted, not {value!r}")
         low, high = _LIMITS[kind]
         if not low <= value <= high:
-            raise ValueError(f"{value} is no number from {low} to {high}")
+            raise ValueError(f"{what}: {value} is no number from {low} to {high}")
     return value
+
+
+def _all_within(parameters, arguments):
+    """Arguments of parameters, which are pairs of a name and a kind."""
+    return [_within(*it, value) for it, value in zip(parameters, arguments, strict=True)]
 
 
 class _Numbers(ctypes.Structure):
     """A struct of numbers, each of which its type can hold."""
 
     def __init__(self, *values):
-        kinds = [kind for _, kind in self._fields_]
-        super().__init__(*map(_within, kinds, values))
+        super().__init__(*_all_within(self._fields_, values))
 
 
 class _V2(_Numbers):
@@ -90,20 +98,20 @@ class _Material(_Numbers):
 def _vector(value, what):
     """Two numbers, (x, y), of the argument of this name."""
     try:
-        x, y = value
+        x, y = () if isinstance(value, (dict, set)) else value
     except (TypeError, ValueError):
         x = y = None
-    if not (isinstance(x, int) and isinstance(y, int)):
+    if not (_is_whole(x) and _is_whole(y)):
         raise TypeError(f"{what}: two whole numbers, (x, y), are wanted, not {value!r}")
     return _V2(x, y)
 
 
-def _bytes(value, what):
+def _bytes(value, what, wanted="bytes"):
     """The bytes of the argument of this name."""
     try:
         return bytes(memoryview(value))
     except TypeError:
-        raise TypeError(f"{what}: bytes are wanted, not {type(value).__name__}") from None
+        raise TypeError(f"{what}: {wanted} are wanted, not {type(value).__name__}") from None
 
 
 class _Sizes(ctypes.Structure):
@@ -148,34 +156,70 @@ class World(NamedTuple):
 
 
 _Frame = c_uint8 * FRAME_LEN
-_WORLD = [POINTER(Body), c_size_t, POINTER(Contact), c_size_t, POINTER(_Sizes)]
+_WORLD = {
+    "bodies": POINTER(Body),
+    "bodies_length": c_size_t,
+    "contacts": POINTER(Contact),
+    "contacts_length": c_size_t,
+    "sizes": POINTER(_Sizes),
+}
+# The parameters of each call behind the context, as pf.h has them.
 _PARAMETERS = {
-    "open": [],
-    "close": [],
-    "scene_read": [ctypes.c_char_p, c_size_t, POINTER(_Key), POINTER(c_uint64)],
-    "scene_new": [_V2, POINTER(_Key)],
-    "scene_free": [_Key],
-    "scene_add_circle": [_Key, _Material, c_int64, _V2, POINTER(c_uint64)],
-    "scene_add_box": [_Key, _Material, _V2, _V2, _V2, POINTER(c_uint64)],
-    "peer_new": [_Key, c_uint8, c_uint32, POINTER(_Key)],
-    "peer_free": [_Key],
-    "peer_push": [_Key, c_uint16, _V2, POINTER(_Frame)],
-    "peer_turn": [_Key, c_uint16, c_int64, POINTER(_Frame)],
-    "peer_stop": [_Key, c_uint16, POINTER(_Frame)],
-    "peer_place": [_Key, c_uint16, _V2, POINTER(_Frame)],
-    "peer_take": [_Key, ctypes.c_char_p, c_size_t, POINTER(c_uint32)],
-    "peer_merge": [_Key, _Key, POINTER(c_uint64)],
-    "peer_merge_alone": [_Key, _Key, POINTER(c_uint64)],
-    "peer_frames": [_Key, c_uint32, POINTER(_Frame), c_size_t, POINTER(c_uint64)],
-    "peer_advance": [_Key, c_uint32, POINTER(c_uint32)],
-    "peer_settle": [_Key, POINTER(c_uint32)],
-    "peer_seal": [_Key, c_uint32],
-    "peer_reached": [_Key, POINTER(c_uint32)],
-    "peer_settled": [_Key, POINTER(c_uint32)],
-    "peer_horizon": [_Key, POINTER(c_uint32)],
-    "peer_meter": [_Key, POINTER(_Counts)],
-    "peer_world": [_Key, c_uint32, *_WORLD],
-    "peer_base": [_Key, *_WORLD],
+    "open": {},
+    "close": {},
+    "scene_read": {
+        "text": ctypes.c_char_p,
+        "length": c_size_t,
+        "scene": POINTER(_Key),
+        "line": POINTER(c_uint64),
+    },
+    "scene_new": {"gravity": _V2, "scene": POINTER(_Key)},
+    "scene_free": {"scene": _Key},
+    "scene_add_circle": {
+        "scene": _Key,
+        "material": _Material,
+        "radius": c_int64,
+        "position": _V2,
+        "body": POINTER(c_uint64),
+    },
+    "scene_add_box": {
+        "scene": _Key,
+        "material": _Material,
+        "half": _V2,
+        "position": _V2,
+        "direction": _V2,
+        "body": POINTER(c_uint64),
+    },
+    "peer_new": {"scene": _Key, "player": c_uint8, "ring": c_uint32, "peer": POINTER(_Key)},
+    "peer_free": {"peer": _Key},
+    "peer_push": {"peer": _Key, "body": c_uint16, "impulse": _V2, "frame": POINTER(_Frame)},
+    "peer_turn": {"peer": _Key, "body": c_uint16, "impulse": c_int64, "frame": POINTER(_Frame)},
+    "peer_stop": {"peer": _Key, "body": c_uint16, "frame": POINTER(_Frame)},
+    "peer_place": {"peer": _Key, "body": c_uint16, "position": _V2, "frame": POINTER(_Frame)},
+    "peer_take": {
+        "peer": _Key,
+        "frame": ctypes.c_char_p,
+        "length": c_size_t,
+        "put": POINTER(c_uint32),
+    },
+    "peer_merge": {"peer": _Key, "other": _Key, "count": POINTER(c_uint64)},
+    "peer_merge_alone": {"peer": _Key, "other": _Key, "count": POINTER(c_uint64)},
+    "peer_frames": {
+        "peer": _Key,
+        "tick": c_uint32,
+        "frames": POINTER(_Frame),
+        "length": c_size_t,
+        "count": POINTER(c_uint64),
+    },
+    "peer_advance": {"peer": _Key, "ticks": c_uint32, "reached": POINTER(c_uint32)},
+    "peer_settle": {"peer": _Key, "settled": POINTER(c_uint32)},
+    "peer_seal": {"peer": _Key, "tick": c_uint32},
+    "peer_reached": {"peer": _Key, "reached": POINTER(c_uint32)},
+    "peer_settled": {"peer": _Key, "settled": POINTER(c_uint32)},
+    "peer_horizon": {"peer": _Key, "horizon": POINTER(c_uint32)},
+    "peer_meter": {"peer": _Key, "counts": POINTER(_Counts)},
+    "peer_world": {"peer": _Key, "tick": c_uint32, **_WORLD},
+    "peer_base": {"peer": _Key, **_WORLD},
 }
 
 
@@ -190,7 +234,7 @@ def _load():
         raise OSError(f"{error} (capi/build --quick makes the library)") from None
     for name, parameters in _PARAMETERS.items():
         function = getattr(library, "pf_" + name)
-        function.argtypes = [POINTER(_Context), *parameters]
+        function.argtypes = [POINTER(_Context), *parameters.values()]
         function.restype = c_uint32
     library.pf_build.argtypes, library.pf_build.restype = [], ctypes.c_char_p
     for function in (library.pf_error_name, library.pf_error_text):
@@ -234,7 +278,7 @@ class Context:
 
     def call(self, name, *arguments):
         """Calls pf_NAME."""
-        arguments = map(_within, _PARAMETERS[name], arguments)
+        arguments = _all_within(_PARAMETERS[name].items(), arguments)
         code = getattr(_LIBRARY, "pf_" + name)(byref(self._context), *arguments)
         if code:
             raise Error(code)
@@ -247,7 +291,7 @@ class Context:
 
     def read_scene(self, text):
         """The scene that a text describes: the lines from `gravity` to `end`."""
-        text = text.encode() if isinstance(text, str) else _bytes(text, "text")
+        text = text.encode() if isinstance(text, str) else _bytes(text, "text", "a str or bytes")
         key, line = _Key(), c_uint64()
         try:
             self.call("scene_read", text, len(text), byref(key), byref(line))

@@ -233,8 +233,9 @@ pf_code pf_scene_read(pf_context *context, const uint8_t *text, size_t length, p
 pf_code pf_scene_new(pf_context *context, pf_v2 gravity, pf_scene *scene);
 
 /* Adds a circle to a scene: its radius is from PF_MIN_SIZE to PF_MAX_SIZE, its position at most
- * PF_MAX_POSITION on each axis. Bodies are numbered from 0. A peer that is made later has it, one
- * that was made before has not. */
+ * PF_MAX_POSITION on each axis. Its number is written to `body`: bodies are numbered from 0, and at
+ * most PF_MAX_BODIES are there, so the uint16_t that commands take holds it. A peer that is made
+ * later has it, one that was made before has not. */
 pf_code pf_scene_add_circle(pf_context *context, pf_scene scene, pf_material material,
                             int64_t radius, pf_v2 position, uint64_t *body);
 

@@ -94,6 +94,8 @@ class Calls(unittest.TestCase):
             ("impulse", peer.push, self.box, 5),
             ("impulse", peer.push, self.box, (0.5, 1)),
             ("impulse", peer.push, self.box, "12"),
+            ("impulse", peer.push, self.box, {1: 2, 3: 4}),
+            ("impulse", peer.push, self.box, (True, 6)),
             ("position", peer.place, self.box, (1, 2, 3)),
             ("gravity", self.context.scene, (1,)),
             ("position", self.scene.circle, ONE, 0, ONE, ()),
@@ -116,10 +118,25 @@ class Calls(unittest.TestCase):
         for what, call, argument in (
             ("frame", late.take, frame.hex()),
             ("frame", late.take, FRAME_LEN),
-            ("text", self.context.read_scene, None),
         ):
             told = f"^{what}: bytes are wanted, not {type(argument).__name__}$"
             self.assertRaisesRegex(TypeError, told, call, argument)
+        told = "^text: a str or bytes are wanted, not NoneType$"
+        self.assertRaisesRegex(TypeError, told, self.context.read_scene, None)
+
+    def test_a_wrong_number_is_named(self):
+        peer = self.scene.peer(0)
+        for what, call, *arguments in (
+            ("body", peer.push, "1", (0, 0)),
+            ("impulse", peer.turn, self.box, 1.5),
+            ("ticks", peer.advance, 0.5),
+            ("player", self.scene.peer, True),
+            ("radius", self.scene.circle, ONE, 0, 0.5, (0, 0)),
+            ("owner", self.scene.circle, ONE, 0, ONE, (0, 0), None),
+        ):
+            told = f"^{what}: a whole number is wanted, not "
+            self.assertRaisesRegex(TypeError, told, call, *arguments)
+        self.assertRaisesRegex(ValueError, "^ticks: -1 is no number from 0 to ", peer.advance, -1)
 
     def test_frames_are_read_back(self):
         peer, late = self.scene.peer(0), self.scene.peer(1)
